@@ -1,0 +1,54 @@
+-- The input of `word` decides the status, where nothing outside fails.
+use Rattle.std.proofs.Common.{◌≡◌, ◌≢◌, ℕ, List, [], Option, Some, IfSome, refl, sym, subst, ◌∙◌, inl, inr, ⊎_elim, arith}
+use Rattle.mcb_ends.specs.Causes.{Rose}
+use Rattle.mcb_ends.specs.Lines.{Next, Text, TooLong, CutShort, End}
+use Rattle.mcb_ends.proofs.OneNext.{IsNext-unique}
+use Rattle.billiards_cli.specs.Requests.{Request, Word}
+use Rattle.billiards_cli.specs.WordInput.{IsWordLine, SpellsWord, Offends}
+use Rattle.billiards_cli.specs.Services.{Serves, Stands, IsDecided}
+use Rattle.billiards_cli.specs.declared.reason.Reason.{Reason}
+use Rattle.billiards_cli.specs.declared.reason.Reason.TheVariants as reason
+use Rattle.billiards_cli.specs.declared.status.Status.{Status}
+use Rattle.billiards_cli.specs.declared.status.Status.TheVariants.{Done, NotShown, Usage, Malformed, ReadFault, WriteFault, OutOfMemory, Full}
+
+not_risen : (before now : ℕ) → Stands before now → Rose before now → ⊥
+not_risen before now stands rose = omega (arith, stands.0, stands.1, rose)
+
+-- a line that is a word, with nothing behind it, does not offend
+word_line_is_fine : (bytes w : List ℕ) (number : ℕ) (why : Reason) → IsWordLine bytes w → Offends bytes number why → ⊥
+word_line_is_fine bytes w number reason.TooLong line offends =
+    let same = (IsNext-unique bytes (Text line.0) TooLong [] [] line.1 offends.1).0 in cc
+word_line_is_fine bytes w number reason.Ends line offends =
+    ⊎_elim (λ cut. let same = (IsNext-unique bytes (Text line.0) CutShort [] [] line.1 cut).0 in cc)
+    (λ end. let same = (IsNext-unique bytes (Text line.0) End [] [] line.1 end).0 in cc) offends.1
+word_line_is_fine bytes w number reason.NotAWord line offends =
+    let other = offends.1 in
+    let same : line.0 ≡ other.0 = let both = (IsNext-unique bytes (Text line.0) (Text other.0) [] other.1 line.1 other.2).0 in cc in
+    other.3 (subst (λ (x : List ℕ). SpellsWord x) same (w, line.2))
+word_line_is_fine bytes w number reason.EndLine line offends =
+    let other = offends.1 in
+    other.4 (sym (IsNext-unique bytes (Text line.0) (Text other.0) [] other.1 line.1 other.2).1)
+
+decided : (left left' : Option (List ℕ)) (source source' : ℕ) (written written' : Option (List ℕ)) (sink sink' : ℕ) (status : Status)
+    → Serves Word left left' source source' written written' sink sink' status → status ≢ Usage → Stands source source' → Stands sink sink' → IsDecided Word left status
+decided left left' source source' written written' sink sink' Done serves meant read wrote =
+    let answer = serves.text.1 in
+    (answer.0, answer.1, record { done = λ w line. inl refl; refused = λ none. absurd (none (answer.2.0, answer.2.1)) })
+decided left left' source source' written written' sink sink' OutOfMemory serves meant read wrote =
+    let answer = serves.text.0 in
+    (answer.0, answer.1, record { done = λ w line. inr refl; refused = λ none. absurd (none (answer.2.0, answer.2.1)) })
+decided left left' source source' written written' sink sink' Malformed serves meant read wrote =
+    let answer = serves.text.1 in
+    (answer.0, answer.1, record { done = λ w line. absurd (word_line_is_fine answer.0 w answer.2.0 answer.2.1 line answer.2.2); refused = λ none. refl })
+decided left left' source source' written written' sink sink' Usage serves meant read wrote = absurd (meant refl)
+decided left left' source source' written written' sink sink' ReadFault serves meant read wrote = absurd (not_risen source source' read serves.counts.0)
+decided left left' source source' written written' sink sink' WriteFault serves meant read wrote = absurd (not_risen sink sink' wrote serves.counts.1)
+decided left left' source source' written written' sink sink' NotShown serves meant read wrote = absurd serves.text.1.2
+decided left left' source source' written written' sink sink' Full serves meant read wrote = absurd serves.text.1.2
+
+-- the same for what the words ask
+pub decided_if_asked : (asked : Option Request) (left left' : Option (List ℕ)) (source source' : ℕ) (written written' : Option (List ℕ)) (sink sink' : ℕ) (status : Status)
+    → asked ≡ Some Word → Serves Word left left' source source' written written' sink sink' status → status ≢ Usage → Stands source source' → Stands sink sink'
+    → IfSome asked (λ request. IsDecided request left status)
+decided_if_asked asked left left' source source' written written' sink sink' status is serves meant read wrote =
+    rw is (decided left left' source source' written written' sink sink' status serves meant read wrote)

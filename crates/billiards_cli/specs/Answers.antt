@@ -1,0 +1,32 @@
+-- The right answers to a request: the status and the text that go with an input.
+use Rattle.std.specs.Prelude.{◌≡◌, ℕ, List, [], ◌⊎◌, ⊤, Some, None}
+use Rattle.std.specs.declared.option.Option.{Option}
+use Rattle.exp_sums.specs.FormalPoint.{FormalPoint}
+use Rattle.edge_words.specs.Stable.{IsStable}
+use Rattle.unfolding.specs.Shift.{IsShift, HasShift}
+use Rattle.billiards_cli.specs.Requests.{Request, Word}
+use Rattle.billiards_cli.specs.Texts.{shift_text, unstable_text, refused_text}
+use Rattle.billiards_cli.specs.WordInput.{IsWordLine, Offends}
+use Rattle.billiards_cli.specs.declared.reason.Reason.{Reason}
+use Rattle.billiards_cli.specs.declared.status.Status.{Status}
+use Rattle.billiards_cli.specs.declared.status.Status.TheVariants.{Done, Malformed, OutOfMemory}
+
+-- the text of a word: its shift by repeated reflection, or that it has none
+abbrev pub IsWordText : List ℕ → List ℕ → Type 0
+IsWordText w text = ((v : FormalPoint) × IsShift w v × (text ≡ shift_text v)) ⊎ (¬ (HasShift w) × (text ≡ unstable_text))
+
+-- `word` is done with the text of its word, and refuses the first line that offends. Memory is wanting only for a stable word, and then it writes nothing.
+abbrev pub IsWordAnswer : List ℕ → Status → List ℕ → Type 0
+IsWordAnswer input Done text = (w : List ℕ) × IsWordLine input w × IsWordText w text
+IsWordAnswer input Malformed text = (line : ℕ) × (reason : Reason) × Offends input line reason × (text ≡ refused_text line reason)
+IsWordAnswer input OutOfMemory text = (w : List ℕ) × IsWordLine input w × IsStable w × (text ≡ [])
+IsWordAnswer input status text = ⊥
+
+-- the input is these bytes, where the source tells them, and may be any others where it does not
+abbrev pub MayBe : Option (List ℕ) → List ℕ → Type 0
+MayBe None bytes = ⊤
+MayBe (Some input) bytes = input ≡ bytes
+
+-- the status and the text are a right answer to the request on this input
+abbrev pub IsAnswer : Request → Option (List ℕ) → Status → List ℕ → Type 0
+IsAnswer Word input status text = (bytes : List ℕ) × MayBe input bytes × IsWordAnswer bytes status text

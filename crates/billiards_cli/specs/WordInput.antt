@@ -1,0 +1,22 @@
+-- The input of the command `word`: one line that is a word, and nothing after it.
+use Rattle.std.specs.Prelude.{◌≡◌, ◌≢◌, ℕ, ◌⊎◌, List, []}
+use Rattle.mcb_ends.specs.Lines.{IsNext}
+use Rattle.mcb_ends.specs.Lines as next
+use Rattle.edge_words.specs.Reading.{Spells}
+use Rattle.billiards_cli.specs.declared.reason.Reason.{Reason}
+use Rattle.billiards_cli.specs.declared.reason.Reason.TheVariants.{TooLong, Ends, NotAWord, EndLine}
+
+-- the line spells a word
+abbrev pub SpellsWord : List ℕ → Type 0
+SpellsWord line = (w : List ℕ) × Spells line w
+
+-- the input is one whole line, which spells the word w, and nothing after it
+abbrev pub IsWordLine : List ℕ → List ℕ → Type 0
+IsWordLine input w = (line : List ℕ) × IsNext input (next.Text line) [] × Spells line w
+
+-- the input offends first at this line, counted from 1, and this is the least of its reasons there
+abbrev pub Offends : List ℕ → ℕ → Reason → Type 0
+Offends input line TooLong = (line ≡ 1) × IsNext input next.TooLong []
+Offends input line Ends = (line ≡ 1) × (IsNext input next.CutShort [] ⊎ IsNext input next.End [])
+Offends input line NotAWord = (line ≡ 1) × ((first rest : List ℕ) × IsNext input (next.Text first) rest × ¬ (SpellsWord first))
+Offends input line EndLine = (line ≡ 2) × ((first rest : List ℕ) × IsNext input (next.Text first) rest × SpellsWord first × (rest ≢ []))

@@ -1,0 +1,27 @@
+ghost use Rattle.std.specs.Prelude.{◌≡◌};
+ghost use Rattle.mcb_ends.specs.Bytes.{Writes};
+ghost use Rattle.mcb_ends.specs.Causes.{HasCause};
+ghost use Rattle.billiards_cli.specs.Texts.{refused_text};
+
+use crate::Reason;
+use mcb_ends::{Decimal, Failed, Sink, put_all};
+
+/// Writes which line of the input is refused, counted from 1, and why.
+pub(crate) fn write_refusal<K: Sink>(line: u32, reason: Reason, out: &mut K) -> Result<(), Failed>
+    ensures text { Writes (K.written out.old) (K.written out.new) result (refused_text line reason) }
+    ensures room { K.room out.new ≡ K.room out.old }
+    ensures cause { HasCause (K.faults out.old) (K.faults out.new) result }
+{
+    let line_digits = Decimal::new(u64::from(line));
+    let reason_digits = Decimal::new(u64::from(reason.number()));
+    put_all(
+        out,
+        &[
+            b"refused line=",
+            line_digits.digits(),
+            b" reason=",
+            reason_digits.digits(),
+            b"\n",
+        ],
+    )
+}

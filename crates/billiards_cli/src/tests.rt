@@ -1,0 +1,125 @@
+use crate::{Args, Status, run};
+use mcb_ends::{MemSink, MemSource};
+use std::alloc::{AllocError, Global};
+use std::test::Fail;
+
+const SHIFT: &[u8] = b"stable\n-3 -3 1\n-3 -1 -1\n-1 -3 -1\n-1 1 1\n1 -1 1\n1 1 -1\nend 6\n";
+
+const SHIFT_OF_TEN: &[u8] =
+    b"stable\n-3 -3 10\n-3 -1 -10\n-1 -3 -10\n-1 1 10\n1 -1 10\n1 1 -10\nend 6\n";
+
+const NO_WORD: &[u8] = b"refused line=1 reason=7\n";
+
+const CUT_SHORT: &[u8] = b"refused line=1 reason=2\n";
+
+const TOO_LONG: &[u8] = b"refused line=1 reason=1\n";
+
+const MORE: &[u8] = b"refused line=2 reason=13\n";
+
+fn words_of(alloc: Global, words: &[&str]) -> Result<Args, AllocError> {
+    let mut args = Args::new(alloc);
+    for word in words {
+        args.push(word)?;
+    }
+    Ok(args)
+}
+
+// What `mcb word` writes on an input.
+#[test]
+fn word_answers_its_input(rt: HostRuntime) -> Result<(), Fail> {
+    let rows: [(&[u8], Status, &[u8]); 14] = [
+        (b"123123\n", Status::Done, SHIFT),
+        (b"121323\n", Status::Done, b"unstable\n"),
+        (
+            b"123123123123123123123123123123123123123123123123123123123123\n",
+            Status::Done,
+            SHIFT_OF_TEN,
+        ),
+        (
+            b"1212121212121212121212121212121212121212121212121212121212121212\n",
+            Status::Done,
+            b"unstable\n",
+        ),
+        (b"123121\n", Status::Malformed, NO_WORD),
+        (
+            b"121212121212121212121212121212121212121212121212121212121212121212\n",
+            Status::Malformed,
+            NO_WORD,
+        ),
+        (b"\n", Status::Malformed, NO_WORD),
+        (b"123124\n", Status::Malformed, NO_WORD),
+        (b"", Status::Malformed, CUT_SHORT),
+        (b"123123", Status::Malformed, CUT_SHORT),
+        (b"123123\n1", Status::Malformed, MORE),
+        (b"123123\n\n", Status::Malformed, MORE),
+        (
+            b"123123123123123123123123123123123123123123123123123123123123123123123123123123123",
+            Status::Malformed,
+            TOO_LONG,
+        ),
+        (
+            b"12312312312312312312312312312312312312312312312312312312312312312312312312312312",
+            Status::Malformed,
+            CUT_SHORT,
+        ),
+    ];
+    let words = words_of(rt.alloc(), &["word"])?;
+    for (input, status, text) in rows {
+        let mut src = MemSource::new(input.to_vec(rt.alloc())?, 16, Vec::new(rt.alloc()));
+        let mut out = MemSink::new(rt.alloc(), 1000, 7, Vec::new(rt.alloc()))?;
+        assert_eq!(rt; run(rt.alloc(), &words, &mut src, &mut out), status);
+        assert_eq!(rt; out.bytes(), text);
+    }
+    Ok(())
+}
+
+// The third call for bytes fails, and then the first one that writes.
+#[test]
+fn word_lays_faults_to_the_outside(rt: HostRuntime) -> Result<(), Fail> {
+    let words = words_of(rt.alloc(), &["word"])?;
+    let line = b"123123\n".to_vec(rt.alloc())?;
+    let mut src = MemSource::new(line, 3, [3].to_vec(rt.alloc())?);
+    let mut out = MemSink::new(rt.alloc(), 1000, 7, Vec::new(rt.alloc()))?;
+    assert_eq!(rt;
+        run(rt.alloc(), &words, &mut src, &mut out),
+        Status::ReadFault
+    );
+    assert_eq!(rt; src.faults(), 1);
+    assert_eq!(rt; out.bytes().len(), 0);
+
+    let line = b"123123\n".to_vec(rt.alloc())?;
+    let mut src = MemSource::new(line, 16, Vec::new(rt.alloc()));
+    let mut out = MemSink::new(rt.alloc(), 1000, 7, [1].to_vec(rt.alloc())?)?;
+    assert_eq!(rt;
+        run(rt.alloc(), &words, &mut src, &mut out),
+        Status::WriteFault
+    );
+    assert_eq!(rt; out.faults(), 1);
+    assert_eq!(rt; out.bytes().len(), 0);
+    Ok(())
+}
+
+// Words that ask for nothing leave the input alone.
+#[test]
+fn other_words_are_a_wrong_use(rt: HostRuntime) -> Result<(), Fail> {
+    let rows: [&[&str]; 9] = [
+        &[],
+        &["help"],
+        &["check", "x"],
+        &["word", "123123"],
+        &["at", "123123", "1", "1", "2"],
+        &["at", "123123", "01", "1", "3"],
+        &["job", "0"],
+        &["search", "1", "1", "3", "7"],
+        &["upgrade", "1"],
+    ];
+    for words in rows {
+        let words = words_of(rt.alloc(), words)?;
+        let line = b"123123\n".to_vec(rt.alloc())?;
+        let mut src = MemSource::new(line, 16, [1].to_vec(rt.alloc())?);
+        let mut out = MemSink::new(rt.alloc(), 1000, 7, [1].to_vec(rt.alloc())?)?;
+        assert_eq!(rt; run(rt.alloc(), &words, &mut src, &mut out), Status::Usage);
+        assert_eq!(rt; src.faults() + out.faults(), 0);
+    }
+    Ok(())
+}

@@ -1,0 +1,9 @@
+pub mod Balance
+pub mod Bracelet
+pub mod Digits
+pub mod KeptStability
+pub mod Lexicographic
+pub mod OneWay
+pub mod Places
+pub mod Rotations
+pub mod Turns

@@ -1,0 +1,9 @@
+pub mod Directions
+pub mod Weigh
+pub mod SamePoint
+pub mod PointRing
+pub mod Weights
+pub mod Within
+pub mod Limits
+pub mod Place
+pub mod Kept

@@ -1,0 +1,26 @@
+use Rattle.std.proofs.Common.{arith, take, get_or, pos}
+use Rattle.std.specs.Prelude.{unsigned_abs}
+use Rattle.std.proofs.lemmas.List.{length-take}
+use Rattle.std.proofs.lemmas.List.Sums.{sum_by_more_le}
+use Rattle.exp_sums.specs.declared.terms.Term.{Term}
+use Rattle.exp_sums.proofs.Kept.{is_canonical-put_terms, length-put_terms, step_fits}
+use Rattle.exp_sums.proofs.terms.put_all.Goals as goal
+
+blank : Term
+blank = record { dir = record { m = pos 0; n = pos 0 }; c = pos 0 }
+
+pub put-requires-clause-canonical : goal.put-requires-clause-canonical
+put-requires-clause-canonical c = rw c.loop-term.invariant.items (is_canonical-put_terms (take c.loop-term.term-index c.args.more.now) c.args.terms.now.items c.requires.canonical)
+
+pub put-requires-clause-room : goal.put-requires-clause-room
+put-requires-clause-room c =
+    let before = length-put_terms (take c.loop-term.term-index c.args.more.now) c.args.terms.now.items in
+    rw (c.loop-term.invariant.items, c.loop-term.invariant.capacity) (omega (arith, before, c.requires.room, length-take c.loop-term.term-index c.args.more.now))
+
+pub put-requires-clause-fits : goal.put-requires-clause-fits
+unfolding blank
+put-requires-clause-fits c =
+    let more = c.args.more.now in
+    let i = c.loop-term.term-index in
+    let light = sum_by_more_le (λ (t : Term). unsigned_abs t.c) more i blank c.loop-term-test.true in
+    rw c.loop-term.invariant.items (step_fits (take i more) c.args.terms.now.items (get_or more i blank) (omega (arith, light, c.requires.light)))

@@ -1,0 +1,11 @@
+pub mod Advance
+pub mod Bytes
+pub mod Calls
+pub mod Causes
+pub mod Lines
+pub mod MemSink
+pub mod MemSource
+pub mod Reader
+pub mod Room
+pub mod StdSink
+pub mod StdSource

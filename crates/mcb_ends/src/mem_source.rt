@@ -1,0 +1,78 @@
+ghost use Rattle.std.specs.Prelude.{◌-◌, ◌^◌, ◌<◌, ◌≤◌, length};
+
+use crate::calls::Calls;
+use crate::{Failed, Source};
+
+/// A source in memory. It hands out at most `piece` bytes in a call, and fails exactly in the calls
+/// whose numbers, counted from 1, are listed.
+#[derive(Drop)]
+pub struct MemSource {
+    bytes: Vec<u8>,
+    at: usize,
+    piece: usize,
+    calls: Calls,
+    ghost within: { at ≤ length bytes.items },
+    ghost positive: { 0 < piece },
+    ghost counted: { calls.faults ≤ 2 ^ 64 - 1 },
+}
+
+impl MemSource {
+    ghost use Rattle.std.specs.Prelude.{◌≡◌, [], ◌<◌};
+    ghost use Rattle.mcb_ends.specs.MemSource.{source_left, source_piece, source_calls};
+
+    pub fn new(bytes: Vec<u8>, piece: usize, fails: Vec<u32>) -> MemSource
+        requires { 0 < piece }
+        ensures left { source_left result ≡ bytes.items }
+        ensures piece { source_piece result ≡ piece }
+        ensures calls { source_calls result ≡ record { fails = fails.items; made = 0; faults = 0 } }
+    {
+        MemSource {
+            bytes,
+            at: 0,
+            piece,
+            calls: Calls::new(fails),
+        }
+    }
+
+    /// How often it has failed.
+    pub fn faults(&self) -> u64
+        ensures { result ≡ (source_calls self.now).faults }
+    {
+        self.calls.faults()
+    }
+}
+
+impl Source for MemSource {
+    ghost use Rattle.std.specs.Prelude.{◌≡◌, ◌↔◌, ◌-◌, ◌^◌, ◌≤◌, Some, length, min, IfOk, IsErr, Contains};
+    ghost use Rattle.std.specs.Io.KnownBytes.{ReadConsumes};
+    ghost use Rattle.mcb_ends.specs.Calls.{CountsCall};
+    ghost use Rattle.mcb_ends.specs.Causes.{HasCause};
+    ghost use Rattle.mcb_ends.specs.MemSource.{source_left, source_piece, source_calls};
+
+    ghost left = { λ source. Some (source_left source) };
+
+    ghost faults = { λ source. (source_calls source).faults };
+
+    ghost counted = { λ source. source.counted };
+
+    /// Hands out as many bytes as the buffer, the piece and what is left allow.
+    fn read(&mut self, buf: &mut [u8]) -> Result<usize, Failed>
+        ensures bound { IfOk result (λ n. n ≤ length buf.new) }
+        ensures bytes { ReadConsumes (Some (source_left self.old)) (Some (source_left self.new)) result buf.new }
+        ensures cause { HasCause (source_calls self.old).faults (source_calls self.new).faults result }
+
+        ensures count { IfOk result (λ n. n ≡ min (length buf.new)
+            (min (source_piece self.old) (length (source_left self.old)))) }
+        ensures calls { CountsCall (source_calls self.old) (source_calls self.new) result }
+        ensures listed { IsErr result
+            ↔ Contains (source_calls self.old).fails (source_calls self.new).made }
+        ensures piece { source_piece self.new ≡ source_piece self.old }
+    {
+        self.calls.begin()?;
+        let rest = &self.bytes[self.at..];
+        let count = buf.len().min(self.piece).min(rest.len());
+        buf[..count].copy_from_slice(&rest[..count]);
+        self.at += count;
+        Ok(count)
+    }
+}

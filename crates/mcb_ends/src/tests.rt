@@ -1,0 +1,139 @@
+ghost use Rattle.std.specs.Prelude.{◌<◌};
+
+use super::*;
+use std::alloc::Global;
+use std::process::Abort;
+use std::test::Fail;
+
+const PIECES: [usize; 7] = [1, 7, 80, 81, 4095, 4096, 5000];
+
+// Equal bytes, and a newline behind them.
+fn push_line(input: &mut Vec<u8>, byte: u8, len: usize) -> Result<(), OutOfMemory> {
+    for _ in 0..len {
+        input.push(byte)?;
+    }
+    input.push(b'\n')?;
+    Ok(())
+}
+
+// The next answer is this one.
+fn expect(
+    rt: &impl Abort,
+    reader: &mut LineReader,
+    src: &mut MemSource,
+    want: Result<Line<'_>, Failed>,
+) {
+    assert!(rt; reader.number() < 1000);
+    assert_eq!(rt; reader.next(src), want);
+}
+
+fn source(alloc: Global, input: &[u8], piece: usize) -> Result<MemSource, OutOfMemory>
+    requires { 0 < piece }
+{
+    Ok(MemSource::new(input.to_vec(alloc)?, piece, Vec::new(alloc)))
+}
+
+#[test]
+fn lines_come_out_whole(rt: HostRuntime) -> Result<(), Fail> {
+    let alloc = rt.alloc();
+    let mut input = Vec::new(alloc);
+    for byte in b'a'..=b'z' {
+        push_line(&mut input, byte, 0)?;
+        push_line(&mut input, byte, 79)?;
+        push_line(&mut input, byte, 80)?;
+    }
+    for piece in PIECES {
+        assert!(rt; piece > 0);
+        let mut src = source(alloc, &input, piece)?;
+        let mut reader = LineReader::new();
+        for byte in b'a'..=b'z' {
+            expect(&rt, &mut reader, &mut src, Ok(Line::Text(b"")));
+            expect(&rt, &mut reader, &mut src, Ok(Line::Text(&[byte; 79])));
+            expect(&rt, &mut reader, &mut src, Ok(Line::Text(&[byte; 80])));
+        }
+        expect(&rt, &mut reader, &mut src, Ok(Line::End));
+        expect(&rt, &mut reader, &mut src, Ok(Line::End));
+        assert_eq!(rt; reader.number(), 78);
+    }
+    Ok(())
+}
+
+#[test]
+fn reading_ends(rt: HostRuntime) -> Result<(), Fail> {
+    let alloc = rt.alloc();
+    for (len, last, want) in [
+        (0, 0, Line::End),
+        (80, 1, Line::CutShort),
+        (0, 80, Line::CutShort),
+        (79, 81, Line::TooLong),
+        (80, 5000, Line::TooLong),
+    ] {
+        for piece in PIECES {
+            assert!(rt; piece > 0);
+            let mut input = Vec::new(alloc);
+            push_line(&mut input, b'a', len)?;
+            push_line(&mut input, b'b', last)?;
+            input.pop();
+            let mut src = source(alloc, &input, piece)?;
+            let mut reader = LineReader::new();
+            let text = vec![in alloc; b'a'; len]?;
+            expect(&rt, &mut reader, &mut src, Ok(Line::Text(&text)));
+            expect(&rt, &mut reader, &mut src, Ok(want));
+            expect(&rt, &mut reader, &mut src, Ok(Line::End));
+            assert_eq!(rt; reader.number(), 1);
+        }
+    }
+    Ok(())
+}
+
+#[test]
+fn a_fault_keeps_the_line(rt: HostRuntime) -> Result<(), Fail> {
+    let alloc = rt.alloc();
+    let fails = [2].to_vec(alloc)?;
+    let mut src = MemSource::new(b"123123\n1".to_vec(alloc)?, 3, fails);
+    let mut reader = LineReader::new();
+    expect(&rt, &mut reader, &mut src, Err(Failed));
+    assert_eq!(rt; src.faults(), 1);
+    expect(&rt, &mut reader, &mut src, Ok(Line::Text(b"123123")));
+    expect(&rt, &mut reader, &mut src, Ok(Line::CutShort));
+    assert_eq!(rt; src.faults(), 1);
+    Ok(())
+}
+
+#[test]
+fn a_sink_fails_where_it_says(rt: HostRuntime) -> Result<(), Fail> {
+    let alloc = rt.alloc();
+    let fails = [2].to_vec(alloc)?;
+    let mut out = MemSink::new(alloc, 7, 3, fails)?;
+    assert_eq!(rt; put(&mut out, b"abcdef"), Err(Failed));
+    assert_eq!(rt; out.bytes(), b"abc".as_slice());
+    assert_eq!(rt; put(&mut out, b"defg"), Ok(()));
+    assert_eq!(rt; out.bytes(), b"abcdefg".as_slice());
+    assert_eq!(rt; put(&mut out, b""), Ok(()));
+    assert_eq!(rt; out.faults(), 1);
+    assert_eq!(rt; put(&mut out, b"h"), Err(Failed));
+    assert_eq!(rt; out.faults(), 2);
+    Ok(())
+}
+
+#[test]
+fn decimals_are_canonical(rt: HostRuntime) -> Result<(), Fail> {
+    let alloc = rt.alloc();
+    for (n, want) in [
+        (0, "0"),
+        (-1, "-1"),
+        (i64::MIN, "-9223372036854775808"),
+        (i64::MAX, "9223372036854775807"),
+    ] {
+        let mut out = MemSink::new(alloc, 30, 7, Vec::new(alloc))?;
+        assert_eq!(rt; put_decimal(&mut out, n), Ok(()));
+        assert_eq!(rt; put_all(&mut out, &[b" ", b"end"]), Ok(()));
+        assert!(rt; out.bytes().starts_with(want.as_bytes()));
+        assert_eq!(rt; out.bytes().len(), want.len() + 4);
+    }
+    assert_eq!(rt;
+        Decimal::new(u64::MAX).digits(),
+        b"18446744073709551615".as_slice()
+    );
+    Ok(())
+}

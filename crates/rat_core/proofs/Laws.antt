@@ -1,0 +1,247 @@
+-- Fractions are an ordered field: the ring for the solver, and the order for certificates. What is shown of all pairs
+-- holds of all fractions (`ind₁` to `ind₃`).
+use mathlib.Core.Quot.{Quot-set, mk, sound, ind}
+use Rattle.std.proofs.Common.{◌≡◌, refl, sym, ap, ap₂, ◌∙◌, subst, ℕ, zero, suc, ◌*◌, ◌<◌, Bool, true, false, not, T, ℤ, pos, ◌+ℤ◌, ◌*ℤ◌, neg_ℤ, ◌≤ℤ◌, ◌<ℤ◌, [], ◌∷◌, arith, mul-pos, T_not}
+use Rattle.std.proofs.Math.Dec.{T_prop, not_T}
+use Rattle.std.specs.Int.Signed.{≤ℤ_refl, le_z_yes, clash_ℤ}
+use Rattle.std.specs.Prelude.{int_le}
+use Rattle.ring_solver.specs.Ring.{CommutativeRing, Image}
+use Rattle.ring_solver.specs.Ordered.{OrderedRing, times}
+use Rattle.ring_solver.specs.Expression.{num, ◌⊞◌, ◌⊠◌, opp}
+use Rattle.ring_solver.proofs.Solver.{ring₂, ring₄, ring₆}
+use Rattle.ring_solver.proofs.Certificate.{le₄, le₆, moved, at_most_of_same}
+use mathlib.Core.HLevel.{Π_prop}
+use borrow.Author.Differences.{at_most_in, below_in, le_in, le_not}
+use Rattle.std.proofs.Math.IntN.{zero-*ℤ}
+use Rattle.ring_solver.proofs.Whole.{ℤ_ring, ℤ_ordered, ≤ℤ_antisym, *ℤ_mono_back}
+use Rattle.rat_core.specs.Ratio.{Ratio}
+use Rattle.rat_core.specs.Fraction.{ℚ, ◌÷◌, whole, ◌+ℚ◌, ◌*ℚ◌, neg_ℚ, at_most, ◌≤ℚ◌, ◌<ℚ◌}
+
+pub ind₁ : (P : ℚ → Type 0) → ((x : ℚ) → IsProp (P x)) → ((a : Ratio) → P (mk a)) → (x : ℚ) → P x
+ind₁ P prop f x = ind {β = P} prop f x
+
+pub ind₂ : (P : ℚ → ℚ → Type 0) → ((x y : ℚ) → IsProp (P x y)) → ((a b : Ratio) → P (mk a) (mk b)) → (x y : ℚ) → P x y
+ind₂ P prop f x y = ind₁ (λ x. P x y) (λ x. prop x y) (λ a. ind₁ (λ y. P (mk a) y) (λ y. prop (mk a) y) (f a) y) x
+
+pub ind₃ : (P : ℚ → ℚ → ℚ → Type 0) → ((x y z : ℚ) → IsProp (P x y z)) → ((a b c : Ratio) → P (mk a) (mk b) (mk c)) → (x y z : ℚ) → P x y z
+ind₃ P prop f x y z = ind₂ (λ x y. P x y z) (λ x y. prop x y z) (λ a b. ind₁ (λ z. P (mk a) (mk b) z) (λ z. prop (mk a) (mk b) z) (f a b) z) x y
+
+-- ---- the ring
+
+pub add_assoc : (x y z : ℚ) → (x +ℚ y) +ℚ z ≡ x +ℚ (y +ℚ z)
+unfolding ◌+ℚ◌
+add_assoc = ind₃ (λ x y z. (x +ℚ y) +ℚ z ≡ x +ℚ (y +ℚ z)) (λ x y z. Quot-set _ _)
+    (λ a b c. sound (ring₆ ℤ_ring
+    (λ n d m e k f. ((n ⊠ e ⊞ m ⊠ d) ⊠ f ⊞ k ⊠ (d ⊠ e)) ⊠ (d ⊠ (e ⊠ f)))
+    (λ n d m e k f. (n ⊠ (e ⊠ f) ⊞ (m ⊠ f ⊞ k ⊠ e) ⊠ d) ⊠ ((d ⊠ e) ⊠ f))
+    refl a.num (pos a.den) b.num (pos b.den) c.num (pos c.den)))
+
+pub add_comm : (x y : ℚ) → x +ℚ y ≡ y +ℚ x
+unfolding ◌+ℚ◌
+add_comm = ind₂ (λ x y. x +ℚ y ≡ y +ℚ x) (λ x y. Quot-set _ _)
+    (λ a b. sound (ring₄ ℤ_ring (λ n d m e. (n ⊠ e ⊞ m ⊠ d) ⊠ (e ⊠ d)) (λ n d m e. (m ⊠ d ⊞ n ⊠ e) ⊠ (d ⊠ e)) refl a.num (pos a.den) b.num (pos b.den)))
+
+pub add-zero : (x : ℚ) → x +ℚ whole 0 ≡ x
+unfolding ◌+ℚ◌ ◌÷◌
+add-zero = ind₁ (λ x. x +ℚ whole 0 ≡ x) (λ x. Quot-set _ _)
+    (λ a. sound (ring₂ ℤ_ring (λ n d. (n ⊠ num 1 ⊞ num 0 ⊠ d) ⊠ d) (λ n d. n ⊠ (d ⊠ num 1)) refl a.num (pos a.den)))
+
+pub add-neg : (x : ℚ) → x +ℚ neg_ℚ x ≡ whole 0
+unfolding ◌+ℚ◌ neg_ℚ ◌÷◌
+add-neg = ind₁ (λ x. x +ℚ neg_ℚ x ≡ whole 0) (λ x. Quot-set _ _)
+    (λ a. sound (ring₂ ℤ_ring (λ n d. (n ⊠ d ⊞ opp n ⊠ d) ⊠ num 1) (λ n d. num 0 ⊠ (d ⊠ d)) refl a.num (pos a.den)))
+
+pub mul_assoc : (x y z : ℚ) → (x *ℚ y) *ℚ z ≡ x *ℚ (y *ℚ z)
+unfolding ◌*ℚ◌
+mul_assoc = ind₃ (λ x y z. (x *ℚ y) *ℚ z ≡ x *ℚ (y *ℚ z)) (λ x y z. Quot-set _ _)
+    (λ a b c. sound (ring₆ ℤ_ring (λ n d m e k f. ((n ⊠ m) ⊠ k) ⊠ (d ⊠ (e ⊠ f))) (λ n d m e k f. (n ⊠ (m ⊠ k)) ⊠ ((d ⊠ e) ⊠ f)) refl a.num (pos a.den) b.num (pos b.den) c.num (pos c.den)))
+
+pub mul_comm : (x y : ℚ) → x *ℚ y ≡ y *ℚ x
+unfolding ◌*ℚ◌
+mul_comm = ind₂ (λ x y. x *ℚ y ≡ y *ℚ x) (λ x y. Quot-set _ _)
+    (λ a b. sound (ring₄ ℤ_ring (λ n d m e. (n ⊠ m) ⊠ (e ⊠ d)) (λ n d m e. (m ⊠ n) ⊠ (d ⊠ e)) refl a.num (pos a.den) b.num (pos b.den)))
+
+pub mul-one : (x : ℚ) → x *ℚ whole 1 ≡ x
+unfolding ◌*ℚ◌ ◌÷◌
+mul-one = ind₁ (λ x. x *ℚ whole 1 ≡ x) (λ x. Quot-set _ _)
+    (λ a. sound (ring₂ ℤ_ring (λ n d. (n ⊠ num 1) ⊠ d) (λ n d. n ⊠ (d ⊠ num 1)) refl a.num (pos a.den)))
+
+pub mul-add : (x y z : ℚ) → x *ℚ (y +ℚ z) ≡ x *ℚ y +ℚ x *ℚ z
+unfolding ◌+ℚ◌ ◌*ℚ◌
+mul-add = ind₃ (λ x y z. x *ℚ (y +ℚ z) ≡ x *ℚ y +ℚ x *ℚ z) (λ x y z. Quot-set _ _)
+    (λ a b c. sound (ring₆ ℤ_ring
+    (λ n d m e k f. (n ⊠ (m ⊠ f ⊞ k ⊠ e)) ⊠ ((d ⊠ e) ⊠ (d ⊠ f)))
+    (λ n d m e k f. ((n ⊠ m) ⊠ (d ⊠ f) ⊞ (n ⊠ k) ⊠ (d ⊠ e)) ⊠ (d ⊠ (e ⊠ f)))
+    refl a.num (pos a.den) b.num (pos b.den) c.num (pos c.den)))
+
+-- whole numbers as fractions keep sums, products and negatives
+pub int-add : (a b : ℤ) → (a +ℤ b) ÷ 1 ≡ a ÷ 1 +ℚ b ÷ 1
+unfolding ◌+ℚ◌ ◌÷◌
+int-add a b = sound (ring₂ ℤ_ring (λ a b. (a ⊞ b) ⊠ num 1) (λ a b. (a ⊠ num 1 ⊞ b ⊠ num 1) ⊠ num 1) refl a b)
+
+pub int-mul : (a b : ℤ) → (a *ℤ b) ÷ 1 ≡ a ÷ 1 *ℚ b ÷ 1
+unfolding ◌*ℚ◌ ◌÷◌
+int-mul a b = sound (ring₂ ℤ_ring (λ a b. (a ⊠ b) ⊠ num 1) (λ a b. (a ⊠ b) ⊠ num 1) refl a b)
+
+pub int-neg : (a : ℤ) → neg_ℤ a ÷ 1 ≡ neg_ℚ (a ÷ 1)
+unfolding neg_ℚ ◌÷◌
+int-neg a = refl
+
+abbrev pub ℚ_ring : CommutativeRing
+ℚ_ring = record {
+  Element = ℚ;
+  whole = whole;
+  add = ◌+ℚ◌;
+  mul = ◌*ℚ◌;
+  neg = neg_ℚ;
+  add_assoc = add_assoc;
+  add_comm = add_comm;
+  add-zero = add-zero;
+  add-neg = add-neg;
+  mul_assoc = mul_assoc;
+  mul_comm = mul_comm;
+  mul-one = mul-one;
+  mul-add = mul-add;
+  whole-add = λ m n. int-add (pos m) (pos n);
+}
+
+-- the whole numbers in the fractions
+abbrev pub ℚ_image : Image ℚ_ring
+ℚ_image = record { of = λ a. a ÷ 1; of-pos = λ n. refl; of-add = int-add; of-mul = int-mul; of-neg = int-neg }
+
+-- ---- division
+
+-- n ÷ d times d is n
+pub over-mul : (n : ℤ) (d : ℕ) → 0 < d → n ÷ d *ℚ whole d ≡ n ÷ 1
+unfolding ◌*ℚ◌ ◌÷◌
+over-mul n zero h = absurd (omega arith)
+over-mul n (suc d) h = sound (ring₂ ℤ_ring (λ n d. (n ⊠ d) ⊠ num 1) (λ n d. n ⊠ (d ⊠ num 1)) refl n (pos (suc d)))
+
+-- 0 ÷ d is 0, for every d
+pub over-zero : (d : ℕ) → pos 0 ÷ d ≡ whole 0
+unfolding ◌÷◌
+over-zero zero = refl
+over-zero (suc d) = sound (ring₂ ℤ_ring (λ d e. num 0 ⊠ num 1) (λ d e. num 0 ⊠ d) refl (pos (suc d)) (pos 0))
+
+-- every pair is a quotient
+pub over_at : (n : ℤ) (d : ℕ) (p : 0 < d) → ◌≡◌ {A = ℚ} (mk (record { num = n; den = d; den_pos = p })) (n ÷ d)
+unfolding ◌÷◌
+over_at n zero p = absurd (omega arith)
+over_at n (suc d) p = sound refl
+
+pub over_of : (a : Ratio) → ◌≡◌ {A = ℚ} (mk a) (a.num ÷ a.den)
+over_of a = over_at a.num a.den a.den_pos
+
+-- what holds of all quotients holds of all fractions
+pub of_quotients : (P : ℚ → Type 0) → ((x : ℚ) → IsProp (P x)) → ((n : ℤ) (d : ℕ) → 0 < d → P (n ÷ d)) → (x : ℚ) → P x
+of_quotients P prop f = ind₁ P prop (λ a. subst P (sym (over_of a)) (f a.num a.den a.den_pos))
+
+-- quotients with equal cross products are equal
+pub over_same : (n m : ℤ) (d e : ℕ) → 0 < d → 0 < e → n *ℤ pos e ≡ m *ℤ pos d → n ÷ d ≡ m ÷ e
+over_same n m d e p q h = sym (over_at n d p) ∙ sound h ∙ over_at m e q
+
+pub over-add : (n m : ℤ) (d e : ℕ) → 0 < d → 0 < e → n ÷ d +ℚ m ÷ e ≡ (n *ℤ pos e +ℤ m *ℤ pos d) ÷ (d * e)
+unfolding ◌+ℚ◌
+over-add n m d e p q = ap₂ ◌+ℚ◌ (sym (over_at n d p)) (sym (over_at m e q)) ∙ over_at (n *ℤ pos e +ℤ m *ℤ pos d) (d * e) (mul-pos p q)
+
+pub over-product : (n m : ℤ) (d e : ℕ) → 0 < d → 0 < e → n ÷ d *ℚ m ÷ e ≡ (n *ℤ m) ÷ (d * e)
+unfolding ◌*ℚ◌
+over-product n m d e p q = ap₂ ◌*ℚ◌ (sym (over_at n d p)) (sym (over_at m e q)) ∙ over_at (n *ℤ m) (d * e) (mul-pos p q)
+
+pub over-neg : (n : ℤ) (d : ℕ) → 0 < d → neg_ℚ (n ÷ d) ≡ neg_ℤ n ÷ d
+unfolding neg_ℚ
+over-neg n d p = ap neg_ℚ (sym (over_at n d p)) ∙ over_at (neg_ℤ n) d p
+
+-- the order of quotients is that of the cross products
+pub over-at_most : (n m : ℤ) (d e : ℕ) → 0 < d → 0 < e → at_most (n ÷ d) (m ÷ e) ≡ int_le (n *ℤ pos e) (m *ℤ pos d)
+unfolding at_most
+over-at_most n m d e p q = ap₂ at_most (sym (over_at n d p)) (sym (over_at m e q))
+
+pub over_le : (n m : ℤ) (d e : ℕ) → 0 < d → 0 < e → (n *ℤ pos e) ≤ℤ (m *ℤ pos d) → n ÷ d ≤ℚ m ÷ e
+over_le n m d e p q h = record { le = subst T (sym (over-at_most n m d e p q)) h.le }
+
+pub over_le_back : (n m : ℤ) (d e : ℕ) → 0 < d → 0 < e → n ÷ d ≤ℚ m ÷ e → (n *ℤ pos e) ≤ℤ (m *ℤ pos d)
+over_le_back n m d e p q h = record { le = subst T (over-at_most n m d e p q) h.le }
+
+not_le : (a b : ℤ) → a <ℤ b → T (not (int_le b a))
+not_le a b h = not_T (int_le b a) (λ t. clash_ℤ h (le_z_yes t))
+
+pub over_lt : (n m : ℤ) (d e : ℕ) → 0 < d → 0 < e → (n *ℤ pos e) <ℤ (m *ℤ pos d) → n ÷ d <ℚ m ÷ e
+over_lt n m d e p q h = record { lt = subst (λ t. T (not t)) (sym (over-at_most m n e d q p)) (not_le (n *ℤ pos e) (m *ℤ pos d) h) }
+
+pub over_lt_back : (n m : ℤ) (d e : ℕ) → 0 < d → 0 < e → n ÷ d <ℚ m ÷ e → (n *ℤ pos e) <ℤ (m *ℤ pos d)
+over_lt_back n m d e p q h =
+    below_in (n *ℤ pos e) (m *ℤ pos d) (omega (arith, le_not (m *ℤ pos d) (n *ℤ pos e) (subst (λ t. T (not t)) (over-at_most m n e d q p) h.lt)))
+
+-- ---- the order
+
+pub le_prop : (x y : ℚ) → IsProp (x ≤ℚ y)
+le_prop x y h k = ap (λ (t : T (at_most x y)). record { le = t }) (T_prop (at_most x y) h.le k.le)
+
+pub lt_prop : (x y : ℚ) → IsProp (x <ℚ y)
+lt_prop x y h k = ap (λ (t : T (not (at_most y x))). record { lt = t }) (T_prop (not (at_most y x)) h.lt k.lt)
+
+pos_nonneg : (n : ℕ) → pos 0 ≤ℤ pos n
+pos_nonneg n = at_most_in (pos 0) (pos n) (omega arith)
+
+pub le_refl : (x : ℚ) → x ≤ℚ x
+unfolding at_most
+le_refl = ind₁ (λ x. x ≤ℚ x) (λ x. le_prop x x) (λ a. record { le = (≤ℤ_refl (a.num *ℤ pos a.den)).le })
+
+pub le_trans : (x y z : ℚ) → x ≤ℚ y → y ≤ℚ z → x ≤ℚ z
+unfolding at_most
+le_trans = ind₃ (λ x y z. x ≤ℚ y → y ≤ℚ z → x ≤ℚ z) (λ x y z. Π_prop (λ _. Π_prop (λ _. le_prop x z)))
+    (λ a b c h k.
+    let low : (a.num *ℤ pos c.den *ℤ pos b.den) ≤ℤ (c.num *ℤ pos a.den *ℤ pos b.den) =
+    le₆ ℤ_ordered (λ n d m e k f. (n ⊠ f) ⊠ e) (λ n d m e k f. (k ⊠ d) ⊠ e) (λ n d m e k f. times f (n ⊠ e) (m ⊠ d) ∷ times d (m ⊠ f) (k ⊠ e) ∷ []) refl
+    a.num (pos a.den) b.num (pos b.den) c.num (pos c.den) (pos_nonneg c.den, le_z_yes h.le, (pos_nonneg a.den, le_z_yes k.le, tt)) in
+    record { le = (*ℤ_mono_back (a.num *ℤ pos c.den) (c.num *ℤ pos a.den) b.den b.den_pos low).le })
+
+pub le_antisym : (x y : ℚ) → x ≤ℚ y → y ≤ℚ x → x ≡ y
+unfolding at_most
+le_antisym = ind₂ (λ x y. x ≤ℚ y → y ≤ℚ x → x ≡ y) (λ x y. Π_prop (λ _. Π_prop (λ _. Quot-set x y)))
+    (λ a b h k. sound (≤ℤ_antisym (a.num *ℤ pos b.den) (b.num *ℤ pos a.den) (le_z_yes h.le) (le_z_yes k.le)))
+
+-- what is not at most y is above y
+pub lt_le : (x y : ℚ) → x <ℚ y → x ≤ℚ y
+unfolding at_most
+lt_le = ind₂ (λ x y. x <ℚ y → x ≤ℚ y) (λ x y. Π_prop (λ _. le_prop x y))
+    (λ a b h. record { le = at_most_of_not (b.num *ℤ pos a.den) (a.num *ℤ pos b.den) h.lt })
+  where
+    at_most_of_not : (p q : ℤ) → T (not (int_le p q)) → T (int_le q p)
+    at_most_of_not p q t = le_in q p (omega (arith, le_not p q t))
+
+pub lt_not_le : {P : Type 0} (x y : ℚ) → x <ℚ y → y ≤ℚ x → P
+lt_not_le x y h k = absurd (T_not (at_most y x) h.lt k.le)
+
+-- by cases
+pub le_or_lt : {P : Type 0} (x y : ℚ) → (x ≤ℚ y → P) → (y <ℚ x → P) → P
+le_or_lt {P} x y f g = cases (at_most x y) (λ t. f (record { le = t })) (λ t. g (record { lt = t }))
+  where
+    cases : (b : Bool) → (T b → P) → (T (not b) → P) → P
+    cases true f g = f tt
+    cases false f g = g tt
+
+pub add_mono : (z x y : ℚ) → x ≤ℚ y → z +ℚ x ≤ℚ z +ℚ y
+unfolding at_most ◌+ℚ◌
+add_mono = ind₃ (λ z x y. x ≤ℚ y → z +ℚ x ≤ℚ z +ℚ y) (λ z x y. Π_prop (λ _. le_prop (z +ℚ x) (z +ℚ y)))
+    (λ c a b h. record {
+      le = (le₆ ℤ_ordered (λ n d m e k f. (k ⊠ d ⊞ n ⊠ f) ⊠ (f ⊠ e)) (λ n d m e k f. (k ⊠ e ⊞ m ⊠ f) ⊠ (f ⊠ d)) (λ n d m e k f. times (f ⊠ f) (n ⊠ e) (m ⊠ d) ∷ []) refl
+          a.num (pos a.den) b.num (pos b.den) c.num (pos c.den) (pos_nonneg (c.den * c.den), le_z_yes h.le, tt)).le;
+    })
+
+pub mul_nonneg : (x y : ℚ) → whole 0 ≤ℚ x → whole 0 ≤ℚ y → whole 0 ≤ℚ x *ℚ y
+unfolding at_most ◌*ℚ◌ ◌÷◌
+mul_nonneg = ind₂ (λ x y. whole 0 ≤ℚ x → whole 0 ≤ℚ y → whole 0 ≤ℚ x *ℚ y) (λ x y. Π_prop (λ _. Π_prop (λ _. le_prop (whole 0) (x *ℚ y))))
+    (λ a b h k. record {
+      le = (le₄ ℤ_ordered (λ n d m e. num 0 ⊠ (d ⊠ e)) (λ n d m e. (n ⊠ m) ⊠ num 1) (λ n d m e. times (n ⊠ num 1) (num 0 ⊠ e) (m ⊠ num 1) ∷ []) refl
+          a.num (pos a.den) b.num (pos b.den) (moved ℤ_ordered (zero-*ℤ (pos a.den)) refl (le_z_yes h.le), le_z_yes k.le, tt)).le;
+    })
+
+abbrev pub ℚ_ordered : OrderedRing
+ℚ_ordered = record { ring = ℚ_ring; AtMost = ◌≤ℚ◌; at_most_refl = le_refl; at_most_trans = le_trans; add_mono = add_mono; mul_nonneg = mul_nonneg }
+
+-- quotients that are equal have equal cross products
+pub over_same_back : (n m : ℤ) (d e : ℕ) → 0 < d → 0 < e → n ÷ d ≡ m ÷ e → n *ℤ pos e ≡ m *ℤ pos d
+over_same_back n m d e p q h =
+    ≤ℤ_antisym (n *ℤ pos e) (m *ℤ pos d) (over_le_back n m d e p q (at_most_of_same ℚ_ordered h)) (over_le_back m n e d q p (at_most_of_same ℚ_ordered (sym h)))

@@ -1,0 +1,6 @@
+pub mod Laws
+pub mod Order
+pub mod Wrapped
+pub mod Compare
+pub mod Half
+pub mod Decimals

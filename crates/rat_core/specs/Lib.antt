@@ -1,0 +1,5 @@
+pub mod Ratio
+pub mod Respect
+pub mod Fraction
+pub mod Written
+pub mod Decimal

@@ -1,0 +1,102 @@
+-- Where the points of a grid lie in the unit square, and that the corners of a polygon are points of it.
+use Rattle.std.proofs.Common.{◌≡◌, refl, sym, ◌∙◌, subst, ℕ, ◌+◌, ◌-◌, ◌*◌, ◌<◌, ◌≤◌, List, length, slice_index_or, pos, ◌+ℤ◌, ◌*ℤ◌, ◌≤ℤ◌, inl, inr, arith, mul-pos}
+use Rattle.std.specs.Prelude.{All}
+use Rattle.std.proofs.lemmas.List.{get_or_default}
+use Rattle.std.proofs.lemmas.Bool.Decides.{eqb_tells}
+use borrow.Author.Differences.{at_most_in, below_in}
+use Rattle.ring_solver.specs.Expression.{num, ◌⊞◌, ◌⊟◌, ◌⊠◌}
+use Rattle.ring_solver.proofs.Solver.{ring₃, ring₄}
+use Rattle.ring_solver.proofs.Whole.{ℤ_ring}
+use Rattle.ring_solver.proofs.Certificate.{at_most_of_same}
+use Rattle.rat_core.specs.Fraction.{ℚ, ◌÷◌, whole, ◌+ℚ◌, ◌≤ℚ◌, ◌<ℚ◌}
+use Rattle.rat_core.proofs.Laws.{ℚ_ring, ℚ_ordered, over_same, over-add, over_le, over_lt, le_refl, le_trans, lt_le}
+use Rattle.rat_core.proofs.Order.{over_nonneg, over_positive}
+use Rattle.rational_polygon.specs.Point.{Point, turn, IsOnOrLeft, IsTriangle}
+use Rattle.rational_polygon.specs.Square.{unit_square, IsInBox}
+use Rattle.rational_polygon.specs.Outline.{Outline, grid_point, IsNumber, corner, next, IsInside, IsPolygon, IsInPolygon}
+use Rattle.rational_polygon.proofs.Numbers.{by_number}
+
+-- the order of natural numbers as whole numbers
+pub pos_le : (a b : ℕ) → a ≤ b → pos a ≤ℤ pos b
+pos_le a b h = at_most_in (pos a) (pos b) (omega arith)
+
+-- n / d is at most 1 where n is at most d, and below 1 where n is
+over_at_most_one : (n d : ℕ) → 0 < d → n ≤ d → pos n ÷ d ≤ℚ whole 1
+over_at_most_one n d p h = over_le (pos n) (pos 1) d 1 p (omega arith) (pos_le (n * 1) (1 * d) (omega arith))
+
+over_below_one : (n d : ℕ) → 0 < d → n < d → pos n ÷ d <ℚ whole 1
+over_below_one n d p h = over_lt (pos n) (pos 1) d 1 p (omega arith) (below_in (pos (n * 1)) (pos (1 * d)) (omega arith))
+
+-- a sum over one denominator
+over-add_same : (m n d : ℕ) → 0 < d → pos m ÷ d +ℚ pos n ÷ d ≡ pos (m + n) ÷ d
+over-add_same m n d p =
+    over-add (pos m) (pos n) d d p p
+    ∙ over_same (pos m *ℤ pos d +ℤ pos n *ℤ pos d) (pos (m + n)) (d * d) d (mul-pos p p) p
+    (ring₃ ℤ_ring (λ m n d. (m ⊠ d ⊞ n ⊠ d) ⊠ d) (λ m n d. (m ⊞ n) ⊠ (d ⊠ d)) refl (pos m) (pos n) (pos d))
+
+-- a corner that lies strictly inside is a triangle
+inside_is_triangle : (grid : ℕ) (c : ℕ × ℕ) → 0 < grid → IsInside grid c → IsTriangle (grid_point grid c)
+inside_is_triangle grid c p h = record {
+  first = over_positive c.0 grid (omega (arith, h)) p;
+  second = over_positive c.1 grid (omega (arith, h)) p;
+  third = subst (λ t. t <ℚ whole 1) (sym (over-add_same c.0 c.1 grid p)) (over_below_one (c.0 + c.1) grid p h.sum);
+}
+
+-- an element with a property, of a list whose elements all lie inside
+inside_at : (grid : ℕ) (cs : List (ℕ × ℕ)) (k : ℕ) (c : ℕ × ℕ) → All (IsInside grid) cs → k < length cs → slice_index_or cs k c ≡ c → IsInside grid c
+inside_at grid cs k c all lt e = subst (IsInside grid) e (all k c lt)
+
+-- every point of a polygon lies in the unit square
+pub in_unit_square : (outline : Outline) (p : Point) → IsPolygon outline → IsInPolygon outline p → IsInBox unit_square p
+in_unit_square outline p polygon within =
+    let g : 0 < outline.grid = omega (arith, polygon.grid.0) in
+    let l = within.rectangle.left in
+    let r = within.rectangle.right in
+    let b = within.rectangle.below in
+    let a = within.rectangle.above in
+    let at = inside_at outline.grid outline.corners in
+    record {
+      left = le_trans (whole 0) (pos l.1.0 ÷ outline.grid) p.x (over_nonneg l.1.0 outline.grid) l.4;
+      right = let i = at r.0 r.1 polygon.inside r.2 r.3 in le_trans p.x (pos r.1.0 ÷ outline.grid) (whole 1) r.4 (over_at_most_one r.1.0 outline.grid g (omega (arith, i)));
+      below = le_trans (whole 0) (pos b.1.1 ÷ outline.grid) p.y (over_nonneg b.1.1 outline.grid) b.4;
+      above = let i = at a.0 a.1 polygon.inside a.2 a.3 in le_trans p.y (pos a.1.1 ÷ outline.grid) (whole 1) a.4 (over_at_most_one a.1.1 outline.grid g (omega (arith, i)));
+    }
+
+-- the ends of an edge lie on its line
+turn_start : (a b : Point) → turn a b a ≡ whole 0
+turn_start a b = ring₄ ℚ_ring (λ ax ay bx by. (bx ⊟ ax) ⊠ (ay ⊟ ay) ⊟ (by ⊟ ay) ⊠ (ax ⊟ ax)) (λ ax ay bx by. num 0) refl a.x a.y b.x b.y
+
+turn_end : (a b : Point) → turn a b b ≡ whole 0
+turn_end a b = ring₄ ℚ_ring (λ ax ay bx by. (bx ⊟ ax) ⊠ (by ⊟ ay) ⊟ (by ⊟ ay) ⊠ (bx ⊟ ax)) (λ ax ay bx by. num 0) refl a.x a.y b.x b.y
+
+-- what is 0 is at least 0
+on_line : (x : ℚ) → x ≡ whole 0 → whole 0 ≤ℚ x
+on_line x e = at_most_of_same ℚ_ordered (sym e)
+
+-- two numbers are equal or not
+by_equality : {P : Type 0} (m n : ℕ) → (m ≡ n → P) → ((m ≡ n → ⊥) → P) → P
+by_equality m n f g = elim (eqb_tells m n) [ inl h ↦ f h.1 | inr h ↦ g h.1 ]
+
+-- each corner is on or left of each edge
+corner_on_or_left : (outline : Outline) (i j : ℕ) → IsPolygon outline → IsNumber outline i → IsNumber outline j → IsOnOrLeft (corner outline i) (corner outline (next outline i)) (corner outline j)
+corner_on_or_left outline i j polygon edge number =
+    let a = corner outline i in
+    let b = corner outline (next outline i) in
+    by_equality j i (λ e. subst (λ t. IsOnOrLeft a b (corner outline t)) (sym e) (on_line (turn a b a) (turn_start a b)))
+    (λ start. by_equality j (next outline i) (λ e. subst (λ t. IsOnOrLeft a b (corner outline t)) (sym e) (on_line (turn a b b) (turn_end a b)))
+    (λ end. lt_le (whole 0) (turn a b (corner outline j)) (polygon.convex i j edge number start end)))
+
+-- each corner is a triangle and a point of the polygon
+pub corner_is_point : (outline : Outline) (k : ℕ) → IsPolygon outline → IsNumber outline k → IsTriangle (corner outline k) × IsInPolygon outline (corner outline k)
+corner_is_point outline k polygon number =
+    let c = slice_index_or outline.corners (k - 1) (0, 0) in
+    let lt : k - 1 < length outline.corners = omega (arith, number) in
+    let is = get_or_default outline.corners (k - 1) c (0, 0) lt in
+    let x = (corner outline k).x in
+    let y = (corner outline k).y in (
+      inside_is_triangle outline.grid c (omega (arith, polygon.grid.0)) (by_number (IsInside outline.grid) outline.corners (0, 0) polygon.inside k number.at_least number.at_most),
+      record {
+        rectangle = record { left = (k - 1, c, lt, is, le_refl x); right = (k - 1, c, lt, is, le_refl x); below = (k - 1, c, lt, is, le_refl y); above = (k - 1, c, lt, is, le_refl y) };
+        edges = λ i edge. corner_on_or_left outline i k polygon edge number;
+      },
+    )

@@ -1,0 +1,17 @@
+-- What holds of the corners by their numbers, from 1 on.
+use Rattle.std.proofs.Common.{◌≡◌, ◌∙◌, ap, subst, ℕ, ◌+◌, ◌-◌, ◌<◌, ◌≤◌, List, length, slice_index_or, arith}
+use Rattle.std.specs.Prelude.{All}
+use Rattle.std.proofs.Math.Nat.{add-sub_cancel}
+use Rattle.std.proofs.lemmas.List.{get_or_default}
+
+-- the element of the number k + 1 stands at the index k
+at_number : {X : Type 0} (xs : List X) (e : X) (k : ℕ) (d : X) → k < length xs → slice_index_or xs (k + 1 - 1) e ≡ slice_index_or xs k d
+at_number xs e k d lt = ap (λ t. slice_index_or xs t e) (add-sub_cancel k 1) ∙ get_or_default xs k e d lt
+
+-- what holds of each number holds of all elements
+pub all_by_number : {X : Type 0} (P : X → Type 0) (xs : List X) (e : X) → ((m : ℕ) → 1 ≤ m → m ≤ length xs → P (slice_index_or xs (m - 1) e)) → All P xs
+all_by_number P xs e h k d lt = subst P (at_number xs e k d lt) (h (k + 1) (omega arith) (omega arith))
+
+-- and back
+pub by_number : {X : Type 0} (P : X → Type 0) (xs : List X) (e : X) → All P xs → (m : ℕ) → 1 ≤ m → m ≤ length xs → P (slice_index_or xs (m - 1) e)
+by_number P xs e h m low high = h (m - 1) e (omega arith)

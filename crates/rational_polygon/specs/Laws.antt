@@ -1,0 +1,27 @@
+-- What follows from the definitions alone.
+
+use Rattle.std.specs.Prelude.{ℕ, ◌<◌}
+use Rattle.rational_polygon.specs.Point.{Point, IsTriangle}
+use Rattle.rational_polygon.specs.Square.{Square, unit_square, child, IsInBox}
+use Rattle.rational_polygon.specs.Outline.{Outline, IsNumber, corner, IsPolygon, IsInPolygon}
+use Rattle.rational_polygon.specs.Apart.{IsApart}
+
+-- every point of a polygon lies in the unit square
+abbrev pub PolygonLiesInUnitSquare : Type 0
+PolygonLiesInUnitSquare = (outline : Outline) (p : Point) → IsPolygon outline → IsInPolygon outline p → IsInBox unit_square p
+
+-- a box that is apart from a polygon has no point of it
+abbrev pub ApartHoldsNone : Type 0
+ApartHoldsNone = (box : Square) (outline : Outline) (p : Point) → IsApart box outline → IsInPolygon outline p → IsInBox box p → ⊥
+
+-- a point of a box lies in one of its four children
+abbrev pub ChildrenCover : Type 0
+ChildrenCover = (box : Square) (p : Point) → IsInBox box p → (c : ℕ) × (c < 4) × IsInBox (child box c) p
+
+-- each child lies in its box
+abbrev pub ChildrenLieWithin : Type 0
+ChildrenLieWithin = (box : Square) (p : Point) (c : ℕ) → c < 4 → IsInBox (child box c) p → IsInBox box p
+
+-- each corner of a polygon is a triangle, and a point of the polygon
+abbrev pub CornersAreTriangles : Type 0
+CornersAreTriangles = (outline : Outline) (k : ℕ) → IsPolygon outline → IsNumber outline k → IsTriangle (corner outline k) × IsInPolygon outline (corner outline k)

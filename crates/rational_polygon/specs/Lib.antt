@@ -1,0 +1,6 @@
+pub mod Point
+pub mod Square
+pub mod Outline
+pub mod Apart
+pub mod Fault
+pub mod Laws

@@ -1,0 +1,18 @@
+//! Strictly convex polygons with rational corners, and the boxes of a quadtree over the unit square, exactly.
+//!
+//! The one contract: a `Polygon` is strictly convex and lies inside the triangle of the grid; `holds` and `apart` are exact.
+#![tactic(auto)]
+
+mod edge;
+mod fault;
+mod finding;
+mod grid_box;
+pub mod laws;
+mod polygon;
+mod rectangle;
+#[cfg(test)]
+mod tests;
+
+pub use fault::PolygonFault;
+pub use grid_box::GridBox;
+pub use polygon::Polygon;

@@ -1,0 +1,104 @@
+-- The whole numbers as a commutative ring, and their products in order.
+use Rattle.std.proofs.Common.{◌≡◌, refl, ap, ℕ, ◌+◌, ◌*◌, ◌<◌, ◌≤◌, ℤ, pos, negsuc, ◌+ℤ◌, ◌*ℤ◌, neg_ℤ, ◌≤ℤ◌, ◌<ℤ◌, arith, le_of_mul-le-mul_right, mul-le-mul_right, mul-lt-mul_of_pos_right, lt_of_mul-lt-mul_right, subst}
+use Rattle.std.specs.Int.Signed.{≤ℤ_refl}
+use Rattle.std.proofs.Math.IntN.{+ℤ_assoc, +ℤ_comm, +ℤ_idr, +ℤ_invr, *ℤ_comm}
+use borrow.Author.Differences.{up, down, same_in, at_most_in, below_in, le_out, lt_out, sum_is_lem, product_is}
+use Rattle.ring_solver.specs.Ring.{CommutativeRing, Image}
+use Rattle.ring_solver.specs.Ordered.{OrderedRing}
+
+pub *ℤ-+ℤ : (a b c : ℤ) → a *ℤ (b +ℤ c) ≡ a *ℤ b +ℤ a *ℤ c
+*ℤ-+ℤ a b c =
+    same_in (a *ℤ (b +ℤ c)) (a *ℤ b +ℤ a *ℤ c)
+    (omega (arith, product_is a (b +ℤ c), sum_is_lem (a *ℤ b) (a *ℤ c), product_is a b, product_is a c, ap (λ t. up a * t) (sum_is_lem b c), ap (λ t. down a * t) (sum_is_lem b c)))
+
+pub *ℤ_assoc : (a b c : ℤ) → (a *ℤ b) *ℤ c ≡ a *ℤ (b *ℤ c)
+*ℤ_assoc a b c =
+    let left = product_is (a *ℤ b) c in
+    let right = product_is a (b *ℤ c) in
+    let ab = product_is a b in
+    let bc = product_is b c in
+    same_in ((a *ℤ b) *ℤ c) (a *ℤ (b *ℤ c))
+    (omega (arith, left, right, ap (λ t. t * up c) ab.0, ap (λ t. t * up c) ab.1, ap (λ t. t * down c) ab.0, ap (λ t. t * down c) ab.1, ap (λ t. up a * t) bc.0, ap (λ t. up a * t) bc.1, ap (λ t. down a * t) bc.0, ap (λ t. down a * t) bc.1))
+
+pub *ℤ-pos_one : (a : ℤ) → a *ℤ pos 1 ≡ a
+*ℤ-pos_one a = same_in (a *ℤ pos 1) a (omega (arith, product_is a (pos 1)))
+
+-- the ring of the whole numbers
+abbrev pub ℤ_ring : CommutativeRing
+ℤ_ring = record {
+  Element = ℤ;
+  whole = pos;
+  add = ◌+ℤ◌;
+  mul = ◌*ℤ◌;
+  neg = neg_ℤ;
+  add_assoc = +ℤ_assoc;
+  add_comm = +ℤ_comm;
+  add-zero = +ℤ_idr;
+  add-neg = +ℤ_invr;
+  mul_assoc = *ℤ_assoc;
+  mul_comm = *ℤ_comm;
+  mul-one = *ℤ-pos_one;
+  mul-add = *ℤ-+ℤ;
+  whole-add = λ m n. refl;
+}
+
+-- the whole numbers as their own image
+abbrev pub ℤ_image : Image ℤ_ring
+ℤ_image = record { of = λ a. a; of-pos = λ n. refl; of-add = λ a b. refl; of-mul = λ a b. refl; of-neg = λ a. refl }
+
+pub ≤ℤ_trans : (a b c : ℤ) → a ≤ℤ b → b ≤ℤ c → a ≤ℤ c
+≤ℤ_trans a b c h k = at_most_in a c (omega (arith, le_out a b h, le_out b c k))
+
+pub ≤ℤ-<ℤ_trans : (a b c : ℤ) → a ≤ℤ b → b <ℤ c → a <ℤ c
+≤ℤ-<ℤ_trans a b c h k = below_in a c (omega (arith, le_out a b h, lt_out b c k))
+
+pub ≤ℤ_antisym : (a b : ℤ) → a ≤ℤ b → b ≤ℤ a → a ≡ b
+≤ℤ_antisym a b h k = same_in a b (omega (arith, le_out a b h, le_out b a k))
+
+pub +ℤ_mono : (c a b : ℤ) → a ≤ℤ b → (c +ℤ a) ≤ℤ (c +ℤ b)
++ℤ_mono c a b h = at_most_in (c +ℤ a) (c +ℤ b) (omega (arith, le_out a b h, sum_is_lem c a, sum_is_lem c b))
+
+pub *ℤ_nonneg : (a b : ℤ) → pos 0 ≤ℤ a → pos 0 ≤ℤ b → pos 0 ≤ℤ (a *ℤ b)
+*ℤ_nonneg (pos a) (pos b) h k = at_most_in (pos 0) (pos (a * b)) (omega arith)
+*ℤ_nonneg (pos a) (negsuc b) h k = absurd k.le
+*ℤ_nonneg (negsuc a) b h k = absurd h.le
+
+-- the ordered ring of the whole numbers
+abbrev pub ℤ_ordered : OrderedRing
+ℤ_ordered = record {
+  ring = ℤ_ring;
+  AtMost = ◌≤ℤ◌;
+  at_most_refl = ≤ℤ_refl;
+  at_most_trans = ≤ℤ_trans;
+  add_mono = +ℤ_mono;
+  mul_nonneg = *ℤ_nonneg;
+}
+
+-- an order is kept by a factor from ℕ ..
+pub *ℤ_mono : (a b : ℤ) (d : ℕ) → a ≤ℤ b → (a *ℤ pos d) ≤ℤ (b *ℤ pos d)
+*ℤ_mono a b d h =
+    at_most_in (a *ℤ pos d) (b *ℤ pos d)
+    (let k : (up a + down b) * d ≤ (up b + down a) * d = mul-le-mul_right d (le_out a b h) in omega (arith, k, product_is a (pos d), product_is b (pos d)))
+
+-- .. and a positive one may be taken off
+pub *ℤ_mono_back : (a b : ℤ) (d : ℕ) → 0 < d → (a *ℤ pos d) ≤ℤ (b *ℤ pos d) → a ≤ℤ b
+*ℤ_mono_back a b d p h =
+    at_most_in a b
+    (le_of_mul-le-mul_right (let k : (up a + down b) * d ≤ (up b + down a) * d = omega (arith, product_is a (pos d), product_is b (pos d), le_out (a *ℤ pos d) (b *ℤ pos d) h) in k) p)
+
+-- the same of a strict order
+pub *ℤ_mono_strict : (a b : ℤ) (d : ℕ) → 0 < d → a <ℤ b → (a *ℤ pos d) <ℤ (b *ℤ pos d)
+*ℤ_mono_strict a b d p h =
+    below_in (a *ℤ pos d) (b *ℤ pos d)
+    (let k : (up a + down b) * d < (up b + down a) * d = mul-lt-mul_of_pos_right (lt_out a b h) p in omega (arith, k, product_is a (pos d), product_is b (pos d)))
+
+pub *ℤ_mono_strict_back : (a b : ℤ) (d : ℕ) → (a *ℤ pos d) <ℤ (b *ℤ pos d) → a <ℤ b
+*ℤ_mono_strict_back a b d h =
+    below_in a b
+    (lt_of_mul-lt-mul_right d (let k : (up a + down b) * d < (up b + down a) * d = omega (arith, product_is a (pos d), product_is b (pos d), lt_out (a *ℤ pos d) (b *ℤ pos d) h) in k))
+
+-- a factor of an equation
+pub *ℤ_cancel : (a b : ℤ) (d : ℕ) → 0 < d → a *ℤ pos d ≡ b *ℤ pos d → a ≡ b
+*ℤ_cancel a b d p h =
+    ≤ℤ_antisym a b (*ℤ_mono_back a b d p (subst (λ t. (a *ℤ pos d) ≤ℤ t) h (≤ℤ_refl (a *ℤ pos d))))
+    (*ℤ_mono_back b a d p (subst (λ t. t ≤ℤ (a *ℤ pos d)) h (≤ℤ_refl (a *ℤ pos d))))

@@ -1,0 +1,3 @@
+pub mod Ring
+pub mod Expression
+pub mod Ordered

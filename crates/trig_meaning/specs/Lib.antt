@@ -1,0 +1,5 @@
+pub mod PartialSums
+pub mod Turn
+pub mod FromSomeOn
+pub mod Laws
+pub mod Value

@@ -1,0 +1,8 @@
+pub mod Turned
+pub mod Mirrors
+pub mod Seen
+pub mod Shifts
+pub mod Bounds
+pub mod Crossing
+pub mod KeptTriangles
+pub mod KeptShift

@@ -1,0 +1,167 @@
+-- How the directions of corners turn along a word: the next step, how far they reach, and where they come back.
+use Rattle.std.proofs.Common.{◌≡◌, ℕ, zero, suc, ◌+◌, ◌*◌, ◌%◌, ◌≤◌, ◌==◌, Bool, true, false, not, List, [], ◌∷◌, ◌++◌, length, ℤ, pos, ◌+ℤ◌, neg_ℤ, if◌then◌else◌, refl, sym, ap, ◌∙◌, arith}
+use Rattle.std.proofs.lemmas.Int.{ints}
+use Rattle.std.proofs.lemmas.Bool.Decides.{nat_tests}
+use Rattle.std.proofs.lemmas.List.Elements.{All-head, All-tail, All-cons}
+use Rattle.std.proofs.lemmas.List.Sums.{sum_by-cons}
+use Rattle.std.specs.List.{All}
+use Rattle.std.specs.Int.RustNames.{unsigned_abs}
+use Rattle.edge_words.specs.Letters.{IsLetter}
+use Rattle.edge_words.specs.Stable.{count_of, at_odd_places, at_even_places, IsStable}
+use Rattle.exp_sums.specs.declared.direction.Dir.{Dir}
+use Rattle.unfolding.specs.Triangle.{next_corner, corner_dir}
+use Rattle.unfolding.specs.Walk.{is_turned_over, edge_dir, turned}
+
+-- directions with the same numbers are the same
+pub same_dir : (d e : Dir) → d.m ≡ e.m → d.n ≡ e.n → d ≡ e
+same_dir d e m n = λ i. record { m = m i; n = n i }
+
+-- one more letter: each direction is mirrored in the edge as it is seen from the centre
+pub turned-snoc-m : (w : List ℕ) (d : ℕ) (e : Dir) →
+    (turned (w ++ d ∷ []) e).m +ℤ (turned w e).m ≡ (turned w (corner_dir (next_corner d))).m +ℤ (turned w (corner_dir (next_corner (next_corner d)))).m
+turned-snoc-m [] d e = omega (arith, ints)
+turned-snoc-m (x ∷ w) d e = omega (arith, ints, turned-snoc-m w d e)
+
+pub turned-snoc-n : (w : List ℕ) (d : ℕ) (e : Dir) →
+    (turned (w ++ d ∷ []) e).n +ℤ (turned w e).n ≡ (turned w (corner_dir (next_corner d))).n +ℤ (turned w (corner_dir (next_corner (next_corner d)))).n
+turned-snoc-n [] d e = omega (arith, ints)
+turned-snoc-n (x ∷ w) d e = omega (arith, ints, turned-snoc-n w d e)
+
+-- what holds of 1, 2 and 3 holds of each letter
+pub letter_cases : (P : ℕ → Type 0) (d : ℕ) → IsLetter d → P 1 → P 2 → P 3 → P d
+letter_cases P zero h one two three = absurd (omega (arith, h))
+letter_cases P (suc zero) h one two three = one
+letter_cases P (suc (suc zero)) h one two three = two
+letter_cases P (suc (suc (suc zero))) h one two three = three
+letter_cases P (suc (suc (suc (suc d)))) h one two three = absurd (omega (arith, h))
+
+-- 1 for the letter that is counted
+abbrev pub once : ℕ → ℕ → ℕ
+once x y = if y == x then 1 else 0
+
+pub count_of-cons : (x y : ℕ) (w : List ℕ) → count_of x (y ∷ w) ≡ once x y + count_of x w
+count_of-cons x y w = sum_by-cons _ y w
+
+-- letter 2 alone moves the first number, and letter 1 alone the second
+edge_dir-m : (d : ℕ) → IsLetter d → (edge_dir d).m ≡ pos (2 * once 2 d)
+edge_dir-m d h = letter_cases (λ d. (edge_dir d).m ≡ pos (2 * once 2 d)) d h refl refl refl
+
+edge_dir-n : (d : ℕ) → IsLetter d → (edge_dir d).n ≡ neg_ℤ (pos (2 * once 1 d))
+edge_dir-n d h = letter_cases (λ d. (edge_dir d).n ≡ neg_ℤ (pos (2 * once 1 d))) d h refl refl refl
+
+-- as often as its letter stands, each number moves by 2 at most
+pub turned-near-m : (w : List ℕ) (e : Dir) → All IsLetter w → unsigned_abs (turned w e).m ≤ unsigned_abs e.m + 2 * count_of 2 w
+turned-near-m [] e h = omega arith
+turned-near-m (d ∷ w) e h =
+    let here = edge_dir-m d (All-head IsLetter d w h) in
+    let count = count_of-cons 2 d w in
+    let rest = turned-near-m w e (All-tail IsLetter d w h) in
+    omega (arith, ints, here, count, rest)
+
+pub turned-near-n : (w : List ℕ) (e : Dir) → All IsLetter w → unsigned_abs (turned w e).n ≤ unsigned_abs e.n + 2 * count_of 1 w
+turned-near-n [] e h = omega arith
+turned-near-n (d ∷ w) e h =
+    let here = edge_dir-n d (All-head IsLetter d w h) in
+    let count = count_of-cons 1 d w in
+    let rest = turned-near-n w e (All-tail IsLetter d w h) in
+    omega (arith, ints, here, count, rest)
+
+-- one letter more in front exchanges the places
+at_places-cons : (x : ℕ) (w : List ℕ) → (at_odd_places (x ∷ w) ≡ x ∷ at_even_places w) × (at_even_places (x ∷ w) ≡ at_odd_places w)
+at_places-cons x [] = (refl, refl)
+at_places-cons x (y ∷ w) =
+    let rest = at_places-cons y w in
+    (ap (λ v. x ∷ v) (sym rest.1), sym rest.0)
+
+-- z, or its negative where b
+oriented : Bool → ℤ → ℤ
+oriented b z = if b then neg_ℤ z else z
+
+oriented-not : (b : Bool) (z : ℤ) → oriented (not b) z ≡ neg_ℤ (oriented b z)
+unfolding oriented
+oriented-not true z = omega (arith, ints)
+oriented-not false z = refl
+
+-- the numbers of a direction after the mirrors of a word, by counts
+turned-counts-m : (w : List ℕ) (e : Dir) → All IsLetter w →
+    (turned w e).m +ℤ pos (2 * count_of 2 (at_even_places w)) ≡ oriented (is_turned_over w) e.m +ℤ pos (2 * count_of 2 (at_odd_places w))
+unfolding oriented
+turned-counts-m [] e h = omega (arith, ints)
+turned-counts-m (d ∷ w) e h =
+    let here = edge_dir-m d (All-head IsLetter d w h) in
+    let rest = turned-counts-m w e (All-tail IsLetter d w h) in
+    let places = at_places-cons d w in
+    rw (places.0, places.1, count_of-cons 2 d (at_even_places w))
+    (omega (arith, ints, here, rest, oriented-not (is_turned_over w) e.m))
+
+turned-counts-n : (w : List ℕ) (e : Dir) → All IsLetter w →
+    (turned w e).n +ℤ pos (2 * count_of 1 (at_odd_places w)) ≡ oriented (is_turned_over w) e.n +ℤ pos (2 * count_of 1 (at_even_places w))
+unfolding oriented
+turned-counts-n [] e h = omega (arith, ints)
+turned-counts-n (d ∷ w) e h =
+    let here = edge_dir-n d (All-head IsLetter d w h) in
+    let rest = turned-counts-n w e (All-tail IsLetter d w h) in
+    let places = at_places-cons d w in
+    rw (places.0, places.1, count_of-cons 1 d (at_even_places w))
+    (omega (arith, ints, here, rest, oriented-not (is_turned_over w) e.n))
+
+-- a word turns its triangle over where its length is odd
+pub is_turned_over-length : (w : List ℕ) → is_turned_over w ≡ (length w % 2 == 1)
+is_turned_over-length [] = refl
+is_turned_over-length (d ∷ w) =
+    let rest = is_turned_over-length w in
+    rw rest (grind (arith, nat_tests))
+
+-- the counts of the three letters add up to the length
+count_of-letters : (w : List ℕ) → All IsLetter w → count_of 1 w + count_of 2 w + count_of 3 w ≡ length w
+count_of-letters [] h = refl
+count_of-letters (d ∷ w) h =
+    let here : once 1 d + once 2 d + once 3 d ≡ 1 = letter_cases (λ d. once 1 d + once 2 d + once 3 d ≡ 1) d (All-head IsLetter d w h) refl refl refl in
+    omega (arith, here, count_of-cons 1 d w, count_of-cons 2 d w, count_of-cons 3 d w, count_of-letters w (All-tail IsLetter d w h))
+
+-- the letters at odd and at even places are letters of the word
+All-at_places : (w : List ℕ) → All IsLetter w → All IsLetter (at_odd_places w) × All IsLetter (at_even_places w)
+All-at_places [] h = (h, h)
+All-at_places (d ∷ w) h =
+    let rest = All-at_places w (All-tail IsLetter d w h) in
+    let places = at_places-cons d w in
+    rw (places.0, places.1) (All-cons IsLetter d (at_even_places w) (All-head IsLetter d w h) rest.1, rest.0)
+
+-- a word of even length has as many odd places as even ones
+length-at_places : (w : List ℕ) → length (at_odd_places w) ≡ length (at_even_places w) + length w % 2
+length-at_places [] = refl
+length-at_places (d ∷ w) =
+    let rest = length-at_places w in
+    let places = at_places-cons d w in
+    rw (places.0, places.1) (omega (arith, rest))
+
+-- a word of even length does not turn its triangle over
+pub is_turned_over-even : (w : List ℕ) → length w % 2 ≡ 0 → is_turned_over w ≡ false
+is_turned_over-even w h = is_turned_over-length w ∙ ap (λ r. r == 1) h
+
+-- where the counts of letters agree, directions come back
+pub turned_from_stable : (w : List ℕ) (e : Dir) → All IsLetter w → length w % 2 ≡ 0 → IsStable w → turned w e ≡ e
+unfolding oriented
+turned_from_stable w e h even stable =
+    let b = is_turned_over-even w even in
+    let m : (turned w e).m +ℤ pos (2 * count_of 2 (at_even_places w)) ≡ e.m +ℤ pos (2 * count_of 2 (at_odd_places w)) = turned-counts-m w e h ∙ ap (λ b. oriented b e.m +ℤ pos (2 * count_of 2 (at_odd_places w))) b in
+    let n : (turned w e).n +ℤ pos (2 * count_of 1 (at_odd_places w)) ≡ e.n +ℤ pos (2 * count_of 1 (at_even_places w)) = turned-counts-n w e h ∙ ap (λ b. oriented b e.n +ℤ pos (2 * count_of 1 (at_even_places w))) b in
+    let one = stable 1 (omega arith, omega arith) in
+    let two = stable 2 (omega arith, omega arith) in
+    same_dir (turned w e) e (omega (arith, ints, m, two)) (omega (arith, ints, n, one))
+
+-- and where one direction comes back, the counts agree
+pub stable_from_turned : (w : List ℕ) (e : Dir) → All IsLetter w → length w % 2 ≡ 0 → turned w e ≡ e → IsStable w
+unfolding oriented
+stable_from_turned w e h even same x letter =
+    let b = is_turned_over-even w even in
+    let m : (turned w e).m +ℤ pos (2 * count_of 2 (at_even_places w)) ≡ e.m +ℤ pos (2 * count_of 2 (at_odd_places w)) = turned-counts-m w e h ∙ ap (λ b. oriented b e.m +ℤ pos (2 * count_of 2 (at_odd_places w))) b in
+    let n : (turned w e).n +ℤ pos (2 * count_of 1 (at_odd_places w)) ≡ e.n +ℤ pos (2 * count_of 1 (at_even_places w)) = turned-counts-n w e h ∙ ap (λ b. oriented b e.n +ℤ pos (2 * count_of 1 (at_even_places w))) b in
+    let same-m = ap (λ d. d.m) same in
+    let same-n = ap (λ d. d.n) same in
+    let one : count_of 1 (at_odd_places w) ≡ count_of 1 (at_even_places w) = omega (arith, ints, n, same-n) in
+    let two : count_of 2 (at_odd_places w) ≡ count_of 2 (at_even_places w) = omega (arith, ints, m, same-m) in
+    let letters = All-at_places w h in
+    let three : count_of 3 (at_odd_places w) ≡ count_of 3 (at_even_places w) =
+    omega (arith, one, two, even, length-at_places w, count_of-letters (at_odd_places w) letters.0, count_of-letters (at_even_places w) letters.1) in
+    letter_cases (λ x. count_of x (at_odd_places w) ≡ count_of x (at_even_places w)) x letter one two three
