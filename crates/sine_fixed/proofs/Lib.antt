@@ -1,0 +1,4 @@
+pub mod Reference
+pub mod Narrowing
+pub mod Nested
+pub mod Enclosed

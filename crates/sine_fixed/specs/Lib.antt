@@ -1,0 +1,2 @@
+pub mod ReferenceAngle
+pub mod Narrow

@@ -1,0 +1,11 @@
+//! Sines of fractions of a turn, enclosed at a scale.
+//!
+//! The one contract: `sine(turn(num, den))` contains the approximations of the sine of pi·num/den from some one on, and
+//! is at most 256 units wide.
+#![tactic(auto)]
+
+mod reduced;
+mod series;
+
+pub use reduced::{Reduced, turn};
+pub use series::sine;
