@@ -3,7 +3,12 @@ use Rattle.std.proofs.Common.{◌≡◌, ◌≢◌, ℕ, List, [], Option, Some,
 use Rattle.mcb_ends.specs.Causes.{Rose}
 use Rattle.mcb_ends.specs.Lines.{Next, Text, TooLong, CutShort, End}
 use Rattle.mcb_ends.proofs.OneNext.{IsNext-unique}
-use Rattle.billiards_cli.specs.Requests.{Request, Word}
+use Rattle.edge_words.specs.Reading.{Spells}
+use Rattle.edge_words.specs.Stable.{IsStable}
+use Rattle.edge_words.proofs.Digits.{digits_of-injective}
+use Rattle.gradient_bounds.specs.Clear.{IsClearAtPoint, slack}
+use Rattle.billiards_cli.specs.Answers.{over}
+use Rattle.billiards_cli.specs.Requests.{Request, Word, At}
 use Rattle.billiards_cli.specs.WordInput.{IsWordLine, SpellsWord, Offends}
 use Rattle.billiards_cli.specs.Services.{Serves, Stands, IsDecided}
 use Rattle.billiards_cli.specs.declared.reason.Reason.{Reason}
@@ -25,6 +30,7 @@ word_line_is_fine bytes w number reason.NotAWord line offends =
     let other = offends.1 in
     let same : line.0 ≡ other.0 = let both = (IsNext-unique bytes (Text line.0) (Text other.0) [] other.1 line.1 other.2).0 in cc in
     other.3 (subst (λ (x : List ℕ). SpellsWord x) same (w, line.2))
+word_line_is_fine bytes w number reason.UnstableWord line offends = offends
 word_line_is_fine bytes w number reason.EndLine line offends =
     let other = offends.1 in
     other.4 (sym (IsNext-unique bytes (Text line.0) (Text other.0) [] other.1 line.1 other.2).1)
@@ -46,9 +52,40 @@ decided left left' source source' written written' sink sink' WriteFault serves 
 decided left left' source source' written written' sink sink' NotShown serves meant read wrote = absurd serves.text.1.2
 decided left left' source source' written written' sink sink' Full serves meant read wrote = absurd serves.text.1.2
 
--- the same for what the words ask
-pub decided_if_asked : (asked : Option Request) (left left' : Option (List ℕ)) (source source' : ℕ) (written written' : Option (List ℕ)) (sink sink' : ℕ) (status : Status)
-    → asked ≡ Some Word → Serves Word left left' source source' written written' sink sink' status → status ≢ Usage → Stands source source' → Stands sink sink'
+-- an argument spells one word
+one_spelling : (word w v : List ℕ) → Spells word w → Spells word v → v ≡ w
+one_spelling word w v first second = digits_of-injective v w (sym second.digits ∙ first.digits)
+
+decided_at : (word : List ℕ) (p q d : ℕ) (left left' : Option (List ℕ)) (source source' : ℕ) (written written' : Option (List ℕ)) (sink sink' : ℕ) (status : Status)
+    → Serves (At word p q d) left left' source source' written written' sink sink' status → status ≢ Usage → Stands source source' → Stands sink sink' → IsDecided (At word p q d) left status
+decided_at word p q d left left' source source' written written' sink sink' Done serves meant read wrote =
+    let answer = serves.text.1 in
+    record { done = λ v spells clear. inl refl; refused = λ none. absurd (none (answer.0, answer.1, answer.2.stable)) }
+decided_at word p q d left left' source source' written written' sink sink' NotShown serves meant read wrote =
+    let answer = serves.text.1 in
+    record {
+      done = λ v spells clear. absurd (answer.3 (subst (λ (x : List ℕ). IsClearAtPoint x (over p d) (over q d) (slack 40)) (one_spelling word answer.0 v answer.1 spells) clear));
+      refused = λ none. absurd (none (answer.0, answer.1, answer.2));
+    }
+decided_at word p q d left left' source source' written written' sink sink' Malformed serves meant read wrote =
+    let answer = serves.text.1 in
+    record {
+      done = λ v spells clear. absurd (⊎_elim (λ none. none.0 (v, spells)) (λ unstable. unstable.2 (subst (λ (x : List ℕ). IsStable x) (one_spelling word unstable.0 v unstable.1 spells) clear.stable)) answer);
+      refused = λ none. refl;
+    }
+decided_at word p q d left left' source source' written written' sink sink' OutOfMemory serves meant read wrote =
+    let answer = serves.text.0 in
+    record { done = λ v spells clear. inr refl; refused = λ none. absurd (none (answer.0, answer.1, answer.2)) }
+decided_at word p q d left left' source source' written written' sink sink' Usage serves meant read wrote = absurd (meant refl)
+decided_at word p q d left left' source source' written written' sink sink' ReadFault serves meant read wrote = absurd (not_risen source source' read serves.counts.0)
+decided_at word p q d left left' source source' written written' sink sink' WriteFault serves meant read wrote = absurd (not_risen sink sink' wrote serves.counts.1)
+decided_at word p q d left left' source source' written written' sink sink' Full serves meant read wrote = absurd serves.text.1
+
+-- what the words ask is decided
+pub decided_if_asked : (asked : Option Request) (request : Request) (left left' : Option (List ℕ)) (source source' : ℕ) (written written' : Option (List ℕ)) (sink sink' : ℕ) (status : Status)
+    → asked ≡ Some request → Serves request left left' source source' written written' sink sink' status → status ≢ Usage → Stands source source' → Stands sink sink'
     → IfSome asked (λ request. IsDecided request left status)
-decided_if_asked asked left left' source source' written written' sink sink' status is serves meant read wrote =
+decided_if_asked asked Word left left' source source' written written' sink sink' status is serves meant read wrote =
     rw is (decided left left' source source' written written' sink sink' status serves meant read wrote)
+decided_if_asked asked (At word p q d) left left' source source' written written' sink sink' status is serves meant read wrote =
+    rw is (decided_at word p q d left left' source source' written written' sink sink' status serves meant read wrote)

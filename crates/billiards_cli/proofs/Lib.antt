@@ -1,3 +1,5 @@
 pub mod Judging
 pub mod Serving
 pub mod Deciding
+pub mod Numbers
+pub mod Triangles

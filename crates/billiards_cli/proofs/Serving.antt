@@ -7,10 +7,12 @@ use Rattle.edge_words.specs.Stable.{IsStable}
 use Rattle.edge_words.specs.Word.{IsWord}
 use Rattle.unfolding.specs.Shift.{HasShift}
 use Rattle.unfolding.proofs.Shifts.{stable_from_shift}
-use Rattle.billiards_cli.specs.Answers.{IsWordText}
-use Rattle.billiards_cli.specs.Requests.{Word}
-use Rattle.billiards_cli.specs.Texts.{shift_text, unstable_text, refused_text}
+use Rattle.billiards_cli.specs.Answers.{IsWordText, IsAtAnswer}
+use Rattle.billiards_cli.specs.Requests.{Word, At}
+use Rattle.billiards_cli.specs.Texts.{shift_text, unstable_text, refused_text, argument_text}
+use Rattle.billiards_cli.specs.AtVerdicts.{IsRefusable}
 use Rattle.billiards_cli.specs.declared.reason.Reason.{Reason}
+use Rattle.billiards_cli.specs.declared.reason.Reason.TheVariants as reason
 use Rattle.billiards_cli.specs.Services.{Serves}
 use Rattle.billiards_cli.specs.Verdicts.{IsJudged, AnswersWord, WritesShift, status_after}
 use Rattle.billiards_cli.specs.declared.commands.word.Verdict.TheVariants.{Whole, Refused}
@@ -64,3 +66,17 @@ answered_shift w old new faults faults' result writes cause =
 -- a whole input is a word
 pub IsWord-judged : (left : Option (List ℕ)) (w : List ℕ) → IsJudged left (Whole w) → IsWord w
 IsWord-judged left w judged = judged.2.2.is_word
+
+-- an answer of `at` that was written, or could not be written whole
+pub served_at_open : (word : List ℕ) (p q d : ℕ) (left : Option (List ℕ)) (source : ℕ) (old new : Option (List ℕ)) (faults faults' : ℕ) (text : List ℕ) (status : Status)
+    → IsAtAnswer word p q d status text → AppendsPrefix old new text → Rose faults faults' → Serves (At word p q d) left left source source old new faults faults' WriteFault
+served_at_open word p q d left source old new faults faults' text status right begun rose =
+    record { text = (status, text, right, begun); counts = (refl, rose); end = tt }
+
+-- a refused argument has the text of its reason
+pub refused_at : (word : List ℕ) (p q d : ℕ) (reason : Reason) → IsRefusable word reason → IsAtAnswer word p q d Malformed (argument_text reason)
+refused_at word p q d reason.TooLong none = absurd none
+refused_at word p q d reason.Ends none = absurd none
+refused_at word p q d reason.NotAWord none = inl (none, refl)
+refused_at word p q d reason.UnstableWord unstable = inr (unstable.0, unstable.1, unstable.2, refl)
+refused_at word p q d reason.EndLine none = absurd none

@@ -1,15 +1,20 @@
 -- The right answers to a request: the status and the text that go with an input.
-use Rattle.std.specs.Prelude.{◌≡◌, ℕ, List, [], ◌⊎◌, ⊤, Some, None}
+use Rattle.std.specs.Prelude.{◌≡◌, ℕ, pos, List, [], ◌⊎◌, ⊤, Some, None}
 use Rattle.std.specs.declared.option.Option.{Option}
 use Rattle.exp_sums.specs.FormalPoint.{FormalPoint}
 use Rattle.edge_words.specs.Stable.{IsStable}
 use Rattle.unfolding.specs.Shift.{IsShift, HasShift}
-use Rattle.billiards_cli.specs.Requests.{Request, Word}
-use Rattle.billiards_cli.specs.Texts.{shift_text, unstable_text, refused_text}
-use Rattle.billiards_cli.specs.WordInput.{IsWordLine, Offends}
+use Rattle.edge_words.specs.Reading.{Spells}
+use Rattle.rat_core.specs.Fraction.{ℚ, ◌÷◌}
+use Rattle.gradient_bounds.specs.Corridor.{HasCorridor}
+use Rattle.gradient_bounds.specs.Clear.{IsClearAtPoint, slack}
+use Rattle.billiards_cli.specs.Requests.{Request, Word, At}
+use Rattle.billiards_cli.specs.Texts.{shift_text, unstable_text, refused_text, argument_text, open_text, not_shown_text}
+use Rattle.billiards_cli.specs.WordInput.{SpellsWord, IsWordLine, Offends}
 use Rattle.billiards_cli.specs.declared.reason.Reason.{Reason}
+use Rattle.billiards_cli.specs.declared.reason.Reason.TheVariants.{NotAWord, UnstableWord}
 use Rattle.billiards_cli.specs.declared.status.Status.{Status}
-use Rattle.billiards_cli.specs.declared.status.Status.TheVariants.{Done, Malformed, OutOfMemory}
+use Rattle.billiards_cli.specs.declared.status.Status.TheVariants.{Done, NotShown, Malformed, OutOfMemory}
 
 -- the text of a word: its shift by repeated reflection, or that it has none
 abbrev pub IsWordText : List ℕ → List ℕ → Type 0
@@ -22,6 +27,18 @@ IsWordAnswer input Malformed text = (line : ℕ) × (reason : Reason) × Offends
 IsWordAnswer input OutOfMemory text = (w : List ℕ) × IsWordLine input w × IsStable w × (text ≡ [])
 IsWordAnswer input status text = ⊥
 
+-- the point (p / d, q / d)
+abbrev pub over : ℕ → ℕ → ℚ
+over p d = pos p ÷ d
+
+-- `at` is done where the word has a corridor at the triangle. What is not shown is not clear with the wider slack. An argument is refused that spells no word, or none that is stable.
+abbrev pub IsAtAnswer : List ℕ → ℕ → ℕ → ℕ → Status → List ℕ → Type 0
+IsAtAnswer word p q d Done text = (w : List ℕ) × Spells word w × HasCorridor w (over p d) (over q d) × (text ≡ open_text)
+IsAtAnswer word p q d NotShown text = (w : List ℕ) × Spells word w × IsStable w × ¬ (IsClearAtPoint w (over p d) (over q d) (slack 40)) × (text ≡ not_shown_text)
+IsAtAnswer word p q d Malformed text = (¬ (SpellsWord word) × (text ≡ argument_text NotAWord)) ⊎ ((w : List ℕ) × Spells word w × ¬ (IsStable w) × (text ≡ argument_text UnstableWord))
+IsAtAnswer word p q d OutOfMemory text = (w : List ℕ) × Spells word w × IsStable w × (text ≡ [])
+IsAtAnswer word p q d status text = ⊥
+
 -- the input is these bytes, where the source tells them, and may be any others where it does not
 abbrev pub MayBe : Option (List ℕ) → List ℕ → Type 0
 MayBe None bytes = ⊤
@@ -30,3 +47,4 @@ MayBe (Some input) bytes = input ≡ bytes
 -- the status and the text are a right answer to the request on this input
 abbrev pub IsAnswer : Request → Option (List ℕ) → Status → List ℕ → Type 0
 IsAnswer Word input status text = (bytes : List ℕ) × MayBe input bytes × IsWordAnswer bytes status text
+IsAnswer (At word p q d) input status text = IsAtAnswer word p q d status text

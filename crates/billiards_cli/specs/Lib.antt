@@ -5,4 +5,5 @@ pub mod WordInput
 pub mod Answers
 pub mod Services
 pub mod Verdicts
+pub mod AtVerdicts
 pub mod Codes

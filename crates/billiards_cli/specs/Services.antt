@@ -5,9 +5,12 @@ use Rattle.std.specs.declared.option.Option.{Option}
 use Rattle.std.specs.Io.KnownBytes.{Appends, IsAtEnd}
 use Rattle.mcb_ends.specs.Bytes.{AppendsPrefix}
 use Rattle.mcb_ends.specs.Causes.{Rose}
-use Rattle.billiards_cli.specs.Requests.{Request, Word, reads_input}
+use Rattle.billiards_cli.specs.Requests.{Request, Word, At, reads_input}
 use Rattle.billiards_cli.specs.WordInput.{IsWordLine}
-use Rattle.billiards_cli.specs.Answers.{IsAnswer, MayBe}
+use Rattle.billiards_cli.specs.Answers.{IsAnswer, MayBe, over}
+use Rattle.edge_words.specs.Reading.{Spells}
+use Rattle.edge_words.specs.Stable.{IsStable}
+use Rattle.gradient_bounds.specs.Clear.{IsClearAtPoint, slack}
 use Rattle.billiards_cli.specs.declared.status.Status.{Status}
 use Rattle.billiards_cli.specs.declared.status.Status.TheVariants.{Done, NotShown, Usage, Malformed, ReadFault, WriteFault, OutOfMemory, Full}
 
@@ -61,6 +64,12 @@ pub record IsWordDecided (input : List ℕ) (status : Status) : Type 0 where
   pub done : (w : List ℕ) → IsWordLine input w → (status ≡ Done) ⊎ (status ≡ OutOfMemory)
   pub refused : ¬ ((w : List ℕ) × IsWordLine input w) → status ≡ Malformed
 
+-- `at` is done where the word is stable and clear with the wider slack, unless memory is wanting, and refuses what is no stable word
+pub record IsAtDecided (word : List ℕ) (p q d : ℕ) (status : Status) : Type 0 where
+  pub done : (w : List ℕ) → Spells word w → IsClearAtPoint w (over p d) (over q d) (slack 40) → (status ≡ Done) ⊎ (status ≡ OutOfMemory)
+  pub refused : ¬ ((w : List ℕ) × Spells word w × IsStable w) → status ≡ Malformed
+
 -- the status that a request has to have where nothing outside fails
 abbrev pub IsDecided : Request → Option (List ℕ) → Status → Type 0
 IsDecided Word input status = (bytes : List ℕ) × MayBe input bytes × IsWordDecided bytes status
+IsDecided (At word p q d) input status = IsAtDecided word p q d status

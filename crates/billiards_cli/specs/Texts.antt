@@ -5,7 +5,7 @@ use Rattle.std.specs.Fmt.{decimal, signed_decimal}
 use Rattle.exp_sums.specs.declared.terms.Term.{Term}
 use Rattle.exp_sums.specs.FormalPoint.{FormalPoint, terms}
 use Rattle.billiards_cli.specs.declared.reason.Reason.{Reason}
-use Rattle.billiards_cli.specs.declared.reason.Reason.TheVariants.{TooLong, Ends, NotAWord, EndLine}
+use Rattle.billiards_cli.specs.declared.reason.Reason.TheVariants.{TooLong, Ends, NotAWord, UnstableWord, EndLine}
 
 abbrev pub newline : List ℕ
 newline = 10 ∷ []
@@ -33,8 +33,20 @@ abbrev pub number_of : Reason → ℕ
 number_of TooLong = 1
 number_of Ends = 2
 number_of NotAWord = 7
+number_of UnstableWord = 8
 number_of EndLine = 13
 
 -- the line of the input that is refused, counted from 1, and why
 abbrev pub refused_text : ℕ → Reason → List ℕ
 refused_text line reason = concat (codes "refused line=" ∷ decimal line ∷ codes " reason=" ∷ decimal (number_of reason) ∷ newline ∷ [])
+
+-- an argument that is refused, and why
+abbrev pub argument_text : Reason → List ℕ
+argument_text reason = concat (codes "refused argument reason=" ∷ decimal (number_of reason) ∷ newline ∷ [])
+
+-- whether the corridor of a word was shown to be open at a triangle
+abbrev pub open_text : List ℕ
+open_text = codes "open\n"
+
+abbrev pub not_shown_text : List ℕ
+not_shown_text = codes "not shown\n"

@@ -4,7 +4,7 @@ use Rattle.mcb_ends.specs.Lines.{IsNext}
 use Rattle.mcb_ends.specs.Lines as next
 use Rattle.edge_words.specs.Reading.{Spells}
 use Rattle.billiards_cli.specs.declared.reason.Reason.{Reason}
-use Rattle.billiards_cli.specs.declared.reason.Reason.TheVariants.{TooLong, Ends, NotAWord, EndLine}
+use Rattle.billiards_cli.specs.declared.reason.Reason.TheVariants.{TooLong, Ends, NotAWord, UnstableWord, EndLine}
 
 -- the line spells a word
 abbrev pub SpellsWord : List ℕ → Type 0
@@ -19,4 +19,5 @@ abbrev pub Offends : List ℕ → ℕ → Reason → Type 0
 Offends input line TooLong = (line ≡ 1) × IsNext input next.TooLong []
 Offends input line Ends = (line ≡ 1) × (IsNext input next.CutShort [] ⊎ IsNext input next.End [])
 Offends input line NotAWord = (line ≡ 1) × ((first rest : List ℕ) × IsNext input (next.Text first) rest × ¬ (SpellsWord first))
+Offends input line UnstableWord = ⊥
 Offends input line EndLine = (line ≡ 2) × ((first rest : List ℕ) × IsNext input (next.Text first) rest × SpellsWord first × (rest ≢ []))

@@ -1,2 +1,3 @@
 // The commands, a module for each.
+pub(crate) mod at;
 pub(crate) mod word;

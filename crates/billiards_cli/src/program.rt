@@ -4,6 +4,7 @@ ghost use Rattle.billiards_cli.specs.Requests.{request_of, reads_input};
 ghost use Rattle.billiards_cli.specs.Services.{Serves, Stands, IsDecided};
 
 use crate::command::{Command, parse};
+use crate::commands::at::at;
 use crate::commands::word::word;
 use crate::{Args, Status};
 use mcb_ends::{Sink, Source};
@@ -35,5 +36,6 @@ pub fn run<S: Source, K: Sink>(alloc: Global, words: &Args, src: &mut S, out: &m
     match parse(words) {
         None => Status::Usage,
         Some(Command::Word) => word(alloc, src, out),
+        Some(Command::At { word, p, q, d }) => at(alloc, word, p, q, d, out),
     }
 }

@@ -1,7 +1,7 @@
 ghost use Rattle.std.specs.Prelude.{◌≡◌};
 ghost use Rattle.billiards_cli.specs.Texts.{number_of};
 
-/// Why a line of the input is refused.
+/// Why a line of the input or an argument is refused.
 #[derive(Clone, Copy, Debug, PartialEq, Eq)]
 pub enum Reason {
     /// Its first 81 bytes have no newline.
@@ -10,6 +10,8 @@ pub enum Reason {
     Ends,
     /// It is not a word.
     NotAWord,
+    /// It is a word that is not stable.
+    UnstableWord,
     /// It stands where nothing was due.
     EndLine,
 }
@@ -23,6 +25,7 @@ impl Reason {
             Reason::TooLong => 1,
             Reason::Ends => 2,
             Reason::NotAWord => 7,
+            Reason::UnstableWord => 8,
             Reason::EndLine => 13,
         }
     }

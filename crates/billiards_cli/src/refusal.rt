@@ -1,7 +1,7 @@
 ghost use Rattle.std.specs.Prelude.{◌≡◌};
 ghost use Rattle.mcb_ends.specs.Bytes.{Writes};
 ghost use Rattle.mcb_ends.specs.Causes.{HasCause};
-ghost use Rattle.billiards_cli.specs.Texts.{refused_text};
+ghost use Rattle.billiards_cli.specs.Texts.{refused_text, argument_text};
 
 use crate::Reason;
 use mcb_ends::{Decimal, Failed, Sink, put_all};
@@ -24,4 +24,14 @@ pub(crate) fn write_refusal<K: Sink>(line: u32, reason: Reason, out: &mut K) -> 
             b"\n",
         ],
     )
+}
+
+/// Writes why an argument is refused.
+pub(crate) fn write_argument_refusal<K: Sink>(reason: Reason, out: &mut K) -> Result<(), Failed>
+    ensures text { Writes (K.written out.old) (K.written out.new) result (argument_text reason) }
+    ensures room { K.room out.new ≡ K.room out.old }
+    ensures cause { HasCause (K.faults out.old) (K.faults out.new) result }
+{
+    let digits = Decimal::new(u64::from(reason.number()));
+    put_all(out, &[b"refused argument reason=", digits.digits(), b"\n"])
 }

@@ -102,11 +102,12 @@ fn word_lays_faults_to_the_outside(rt: HostRuntime) -> Result<(), Fail> {
 // Words that ask for nothing leave the input alone.
 #[test]
 fn other_words_are_a_wrong_use(rt: HostRuntime) -> Result<(), Fail> {
-    let rows: [&[&str]; 9] = [
+    let rows: [&[&str]; 10] = [
         &[],
         &["help"],
         &["check", "x"],
         &["word", "123123"],
+        &["at", "123123", "1", "1"],
         &["at", "123123", "1", "1", "2"],
         &["at", "123123", "01", "1", "3"],
         &["job", "0"],
@@ -120,6 +121,59 @@ fn other_words_are_a_wrong_use(rt: HostRuntime) -> Result<(), Fail> {
         let mut out = MemSink::new(rt.alloc(), 1000, 7, [1].to_vec(rt.alloc())?)?;
         assert_eq!(rt; run(rt.alloc(), &words, &mut src, &mut out), Status::Usage);
         assert_eq!(rt; src.faults() + out.faults(), 0);
+    }
+    Ok(())
+}
+
+// What `mcb at` writes of a word and a triangle. It reads nothing.
+#[test]
+fn at_answers_its_arguments(rt: HostRuntime) -> Result<(), Fail> {
+    let rows: [(&[&str], Status, &[u8]); 7] = [
+        (&["at", "123123", "1", "1", "3"], Status::Done, b"open\n"),
+        (
+            &["at", "123123", "2", "1", "4"],
+            Status::NotShown,
+            b"not shown\n",
+        ),
+        (
+            &["at", "123123", "3", "1", "5"],
+            Status::NotShown,
+            b"not shown\n",
+        ),
+        (
+            &["at", "1212312123", "2", "2", "5"],
+            Status::Done,
+            b"open\n",
+        ),
+        (
+            &["at", "121323", "1", "1", "3"],
+            Status::Malformed,
+            b"refused argument reason=8\n",
+        ),
+        (
+            &["at", "123121", "1", "1", "3"],
+            Status::Malformed,
+            b"refused argument reason=7\n",
+        ),
+        (
+            &[
+                "at",
+                "121212121212121212121212121212121212121212121212121212121212121212",
+                "1",
+                "1",
+                "3",
+            ],
+            Status::Malformed,
+            b"refused argument reason=7\n",
+        ),
+    ];
+    for (words, status, text) in rows {
+        let words = words_of(rt.alloc(), words)?;
+        let mut src = MemSource::new(Vec::new(rt.alloc()), 16, [1].to_vec(rt.alloc())?);
+        let mut out = MemSink::new(rt.alloc(), 1000, 7, Vec::new(rt.alloc()))?;
+        assert_eq!(rt; run(rt.alloc(), &words, &mut src, &mut out), status);
+        assert_eq!(rt; out.bytes(), text);
+        assert_eq!(rt; src.faults(), 0);
     }
     Ok(())
 }

@@ -1,8 +1,9 @@
 -- What the terms that an `ExpSum` keeps stand for, and what one more term makes of them.
-use Rattle.std.proofs.Common.{◌≡◌, ◌+◌, ◌≤◌, List, [], ◌∷◌, map, length, ℤ, ◌+ℤ◌, ◌*ℤ◌, neg_ℤ, refl, sym, ap, ap₂, subst, ◌∙◌, T, arith, FitsSigned}
+use Rattle.std.proofs.Common.{◌≡◌, ◌+◌, ◌≤◌, List, [], ◌∷◌, map, length, ℤ, ◌+ℤ◌, ◌*ℤ◌, neg_ℤ, refl, sym, ap, ap₂, subst, ◌∙◌, T, arith, FitsSigned, pos, ◌-ℤ◌, to_z, of_z}
 use Rattle.std.specs.Prelude.{unsigned_abs}
 use Rattle.std.specs.Int.{w64}
-use Rattle.std.proofs.lemmas.Int.{ints, fits_signed_from_abs}
+use mir.Val.{SFits}
+use Rattle.std.proofs.lemmas.Int.{ints, to_z-of_z, fits_signed_from_abs}
 use Rattle.ring_solver.specs.Expression.{◌⊞◌}
 use Rattle.ring_solver.proofs.Solver.{ring₂, ring₃}
 use Rattle.ring_solver.proofs.Whole.{ℤ_ring, ℤ_image}
@@ -65,6 +66,14 @@ pub weight_negated : (ts : List Term) → terms_weight (map term_neg ts) ≡ ter
 weight_negated ts =
     let same : (t : Term) → unsigned_abs (neg_ℤ t.c) ≡ unsigned_abs t.c = λ t. omega (arith, ints) in
     weight_map term_neg same ts
+
+-- what the code computes of a small coefficient is its negative
+pub negated_is : (a : ℤ) → unsigned_abs a ≤ greatest_weight → to_z w64 (of_z w64 (pos 0 -ℤ to_z w64 (of_z w64 a))) ≡ neg_ℤ a
+negated_is a small =
+    let fits : SFits w64 a = fits_signed_from_abs w64 a (omega (arith, small)) in
+    let turned : pos 0 -ℤ a ≡ neg_ℤ a = omega (arith, ints) in
+    let turned_fits : SFits w64 (neg_ℤ a) = fits_signed_from_abs w64 (neg_ℤ a) (omega (arith, ints, small)) in
+    ap (λ z. to_z w64 (of_z w64 (pos 0 -ℤ z))) (to_z-of_z w64 a fits) ∙ ap (λ z. to_z w64 (of_z w64 z)) turned ∙ to_z-of_z w64 (neg_ℤ a) turned_fits
 
 length_cons : (t : Term) (ts : List Term) → length (cons_term t ts) ≤ length ts + 1
 length_cons t ts = cons_has (λ us. length us ≤ length ts + 1) t ts (λ _. omega arith) (λ _. omega arith)

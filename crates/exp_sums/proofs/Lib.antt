@@ -2,8 +2,13 @@ pub mod Directions
 pub mod Weigh
 pub mod SamePoint
 pub mod PointRing
+pub mod SineForm
 pub mod Weights
 pub mod Within
 pub mod Limits
 pub mod Place
 pub mod Kept
+pub mod Reach
+pub mod SineLimits
+pub mod ProductLimits
+pub mod Listed

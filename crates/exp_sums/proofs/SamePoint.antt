@@ -53,7 +53,7 @@ coefficient-monomial c e d = coefficient-point_of (term_of c e ∷ []) d ∙ +�
 pub coefficient_of_monomial : (c : ℤ) (d : Dir) → coefficient (monomial c d) d ≡ c
 coefficient_of_monomial c d = coefficient-monomial c d d ∙ rw (same_dir d) refl
 
-only_turned : (d e : Dir) → only_at d (dir_neg e) ≡ only_at (dir_neg d) e
+pub only_turned : (d e : Dir) → only_at d (dir_neg e) ≡ only_at (dir_neg d) e
 only_turned d e = ap (λ b. if b then pos 1 else pos 0) (same_test d (dir_neg e) (dir_neg d) e (turned d e) (turned_back d e))
 
 pub coefficient-conj : (p : FormalPoint) (d : Dir) → coefficient (conj p) d ≡ coefficient p (dir_neg d)

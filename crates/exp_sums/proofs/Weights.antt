@@ -50,12 +50,12 @@ pub weight_map : (f : Term → Term) → ((t : Term) → unsigned_abs (f t).c �
 weight_map f same [] = refl
 weight_map f same (t ∷ ts) = omega (arith, same t, weight_map f same ts, terms_weight-cons t ts, terms_weight-cons (f t) (map f ts))
 
-weight_times : (t : Term) (us : List Term) → terms_weight (map (term_product t) us) ≡ unsigned_abs t.c * terms_weight us
+pub weight_times : (t : Term) (us : List Term) → terms_weight (map (term_product t) us) ≡ unsigned_abs t.c * terms_weight us
 weight_times t [] = omega arith
 weight_times t (u ∷ us) =
     omega (arith, unsigned_abs-mul t.c u.c, weight_times t us, terms_weight-cons u us, terms_weight-cons (term_product t u) (map (term_product t) us), ap (λ n. unsigned_abs t.c * n) (terms_weight-cons u us))
 
-weight_products : (ts us : List Term) → terms_weight (flat_map (λ t. map (term_product t) us) ts) ≡ terms_weight ts * terms_weight us
+pub weight_products : (ts us : List Term) → terms_weight (flat_map (λ t. map (term_product t) us) ts) ≡ terms_weight ts * terms_weight us
 weight_products [] us = omega arith
 weight_products (t ∷ ts) us =
     omega (arith, terms_weight-append (map (term_product t) us) (flat_map (λ v. map (term_product v) us) ts), weight_times t us, weight_products ts us, ap (λ n. n * terms_weight us) (terms_weight-cons t ts))

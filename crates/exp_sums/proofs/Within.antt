@@ -39,7 +39,7 @@ module _ (P : Dir → Type 0) where
 near_sum : (a b : ℕ) (d e : Dir) → IsNear a d → IsNear b e → IsNear (a + b) (dir_sum d e)
 near_sum a b d e h k = record { m = omega (arith, ints, h.m, k.m); n = omega (arith, ints, h.n, k.n) }
 
-near_neg : (b : ℕ) (d : Dir) → IsNear b d → IsNear b (dir_neg d)
+pub near_neg : (b : ℕ) (d : Dir) → IsNear b d → IsNear b (dir_neg d)
 near_neg b d h = record { m = omega (arith, ints, h.m); n = omega (arith, ints, h.n) }
 
 pub IsWithin-weaker : (a b : ℕ) (p : FormalPoint) → a ≤ b → IsWithin a p → IsWithin b p

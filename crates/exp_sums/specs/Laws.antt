@@ -1,10 +1,11 @@
 -- What formal points mean: the coefficients of each operation, and that a formal point is known by its coefficients.
-use Rattle.std.specs.Prelude.{◌≡◌, List, ℤ, pos, ◌+ℤ◌, neg_ℤ, if◌then◌else◌, T}
+use Rattle.std.specs.Prelude.{◌≡◌, List, ℤ, pos, ◌+ℤ◌, ◌-ℤ◌, neg_ℤ, if◌then◌else◌, T}
 use Rattle.exp_sums.specs.declared.direction.Dir.{Dir}
 use Rattle.exp_sums.specs.declared.terms.Term.{Term}
 use Rattle.exp_sums.specs.Terms.{is_same_dir, is_canonical, total_at}
 use Rattle.exp_sums.specs.FormalPoint.{FormalPoint, terms, coefficient, point_of, dir_sum, dir_neg, monomial, ◌+ₚ◌, negative, ◌*ₚ◌, conj}
 use Rattle.exp_sums.specs.Weigh.{weigh_ints}
+use Rattle.exp_sums.specs.SineForm.{is_upper, sine_form}
 
 -- the terms of a point rise, and none has the coefficient 0
 abbrev pub TermsAreCanonical : Type 0
@@ -34,3 +35,7 @@ ProductsConvolve = (p q : FormalPoint) (d : Dir) → coefficient (p *ₚ q) d �
 
 abbrev pub ConjugatesTurnDirections : Type 0
 ConjugatesTurnDirections = (p : FormalPoint) (d : Dir) → coefficient (conj p) d ≡ coefficient p (dir_neg d)
+
+-- c(m, n) − c(−m, −n) at the directions with m > 0, or with m = 0 and n > 0, and none at the others
+abbrev pub SineFormsSubtractTurned : Type 0
+SineFormsSubtractTurned = (p : FormalPoint) (d : Dir) → coefficient (sine_form p) d ≡ (if is_upper d then coefficient p d -ℤ coefficient p (dir_neg d) else pos 0)

@@ -2,6 +2,9 @@ pub mod Terms
 pub mod Canonical
 pub mod FormalPoint
 pub mod Weigh
+pub mod SineForm
 pub mod Laws
 pub mod Limits
+pub mod Reach
+pub mod Products
 pub mod Place

@@ -1,10 +1,16 @@
 //! Finite sums of directions.
-ghost use Rattle.std.specs.Prelude.{◌≡◌, ◌+◌, ◌≤◌, OnOk, OnErr};
-ghost use Rattle.exp_sums.specs.FormalPoint.{FormalPoint, formal_point_code, point_of, terms, coefficient, zero_point, monomial, ◌+ₚ◌, ◌-ₚ◌};
+ghost use Rattle.std.specs.Prelude.{◌≡◌, ◌+◌, ◌*◌, ◌≤◌, pos, OnOk, OnErr, IfOk};
+ghost use Rattle.exp_sums.specs.FormalPoint.{FormalPoint, formal_point_code, point_of, terms, coefficient, zero_point, monomial, ◌+ₚ◌, ◌-ₚ◌, ◌*ₚ◌, conj};
+ghost use Rattle.exp_sums.specs.SineForm.{sine_form};
+ghost use Rattle.exp_sums.specs.Reach.{reach};
+ghost use Rattle.exp_sums.specs.Products.{SumsAreNear};
 ghost use Rattle.exp_sums.specs.Limits.{IsKept, IsWithinLimits, weight, greatest_weight};
 
 use crate::direction::Dir;
+use crate::products::put_products;
+use crate::sizes::{reach_of, weight_of};
 use crate::terms::{Term, Terms, place_of, put, put_all, put_all_negated};
+use crate::turns::{put_all_conj, put_all_sines};
 use smallvec::SmallVec;
 use std::alloc::{AllocError as OutOfMemory, Global};
 use std::marker::Model;
@@ -88,5 +94,51 @@ impl ExpSum {
         self.terms.reserve(other.terms.len())?;
         put_all_negated(&mut self.terms, &other.terms);
         Ok(())
+    }
+
+    /// The conjugate, each of whose directions is turned round.
+    pub fn conj(&self, alloc: Global) -> Result<ExpSum, OutOfMemory>
+        ensures { IfOk result (λ p. p ≡ conj self.now) }
+    {
+        let mut terms = SmallVec::new(alloc);
+        terms.reserve(self.terms.len())?;
+        put_all_conj(&mut terms, &self.terms);
+        Ok(ExpSum { terms })
+    }
+
+    /// The product, in which directions add and coefficients multiply.
+    pub fn times(&self, alloc: Global, other: &ExpSum) -> Result<ExpSum, OutOfMemory>
+        requires light { weight self.now * weight other.now ≤ greatest_weight }
+        requires near { SumsAreNear (terms self.now) (terms other.now) }
+        ensures { IfOk result (λ p. p ≡ self.now *ₚ other.now) }
+    {
+        let mut terms = SmallVec::new(alloc);
+        put_products(&mut terms, &self.terms, &other.terms)?;
+        Ok(ExpSum { terms })
+    }
+
+    /// The sine form: at (m, n) with m > 0, or with m = 0 and n > 0, the coefficient there less that at (−m, −n), and 0
+    /// at every other direction. A sum over an odd function, as the imaginary part, is that over the sine form.
+    pub fn sine_form(&self, alloc: Global) -> Result<ExpSum, OutOfMemory>
+        ensures { IfOk result (λ p. p ≡ sine_form self.now) }
+    {
+        let mut terms = SmallVec::new(alloc);
+        terms.reserve(self.terms.len())?;
+        put_all_sines(&mut terms, &self.terms);
+        Ok(ExpSum { terms })
+    }
+
+    /// The weight, the sum of |c|. It is at most 2^31.
+    pub fn weight(&self) -> i64
+        ensures { result ≡ pos (weight self.now) }
+    {
+        weight_of(&self.terms)
+    }
+
+    /// The reach, the sum of |c|·(|m| + |n|). It is at most 2^44.
+    pub fn reach(&self) -> i64
+        ensures { result ≡ pos (reach self.now) }
+    {
+        reach_of(&self.terms)
     }
 }

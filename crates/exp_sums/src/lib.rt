@@ -3,15 +3,19 @@
 //! The direction (m, n) is the complex number `e^(iπ(mx + ny))`, where πx and πy are the angles of the triangle at its
 //! corners 1 and 2. The contract of the crate: an [`ExpSum`] is seen as a finite map from directions to whole numbers
 //! other than 0 (`FormalPoint`, an element of the group ring of ℤ×ℤ), and each call answers exactly the map that its
-//! name says. The module [`laws`] says by coefficients what sums, products and conjugates of such maps are.
+//! name says. The module [`laws`] says by coefficients what sums, products, conjugates and sine forms of
+//! such maps are.
 #![tactic(auto)]
 
 mod direction;
 mod exp_sum;
 pub mod laws;
+mod products;
+mod sizes;
 mod terms;
 #[cfg(test)]
 mod tests;
+mod turns;
 
 pub use direction::Dir;
 pub use exp_sum::ExpSum;

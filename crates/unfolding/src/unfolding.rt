@@ -58,6 +58,14 @@ impl Unfolding {
         self.letters.len() as u32
     }
 
+    /// The word, as the numbers 1, 2 and 3.
+    pub fn word(&self) -> &[u8]
+        ensures all { result.now ≡ self.now }
+        ensures is_word { IsWord self.now }
+    {
+        self.letters.as_slice()
+    }
+
     /// The centre of the circle round triangle k.
     pub fn centre(&self, k: u32) -> &ExpSum
         requires { k ≤ length self.now }

@@ -1,26 +1,16 @@
-use Rattle.std.proofs.Common.{◌≡◌, ◌≤◌, ap, arith, take, get_or, pos, map, ℤ, ◌-ℤ◌, neg_ℤ, to_z, of_z, ◌∙◌}
-use Rattle.std.specs.Int.{w64}
+use Rattle.std.proofs.Common.{◌≡◌, ◌≤◌, arith, take, get_or, pos, map, neg_ℤ}
 use Rattle.std.specs.Prelude.{unsigned_abs}
-use mir.Val.{SFits}
-use Rattle.std.proofs.lemmas.Int.{ints, to_z-of_z, fits_signed_from_abs}
+use Rattle.std.proofs.lemmas.Int.{ints}
 use Rattle.std.proofs.lemmas.List.{length-take, length-map}
 use Rattle.std.proofs.lemmas.List.Sums.{sum_by_more_le}
 use Rattle.exp_sums.specs.declared.terms.Term.{Term}
 use Rattle.exp_sums.specs.FormalPoint.{term_neg}
 use Rattle.exp_sums.specs.Limits.{greatest_weight}
-use Rattle.exp_sums.proofs.Kept.{is_canonical-put_terms, length-put_terms, weight_negated, step_fits}
+use Rattle.exp_sums.proofs.Kept.{is_canonical-put_terms, length-put_terms, weight_negated, step_fits, negated_is}
 use Rattle.exp_sums.proofs.terms.put_all_negated.Goals as goal
 
 blank : Term
 blank = record { dir = record { m = pos 0; n = pos 0 }; c = pos 0 }
-
--- what the code computes of a small coefficient is its negative
-negated_is : (a : ℤ) → unsigned_abs a ≤ greatest_weight → to_z w64 (of_z w64 (pos 0 -ℤ to_z w64 (of_z w64 a))) ≡ neg_ℤ a
-negated_is a small =
-    let fits : SFits w64 a = fits_signed_from_abs w64 a (omega (arith, small)) in
-    let turned : pos 0 -ℤ a ≡ neg_ℤ a = omega (arith, ints) in
-    let turned_fits : SFits w64 (neg_ℤ a) = fits_signed_from_abs w64 (neg_ℤ a) (omega (arith, ints, small)) in
-    ap (λ z. to_z w64 (of_z w64 (pos 0 -ℤ z))) (to_z-of_z w64 a fits) ∙ ap (λ z. to_z w64 (of_z w64 z)) turned ∙ to_z-of_z w64 (neg_ℤ a) turned_fits
 
 pub put-requires-clause-canonical : goal.put-requires-clause-canonical
 put-requires-clause-canonical c = rw c.loop-term.invariant.items (is_canonical-put_terms (map term_neg (take c.loop-term.term-index c.args.more.now)) c.args.terms.now.items c.requires.canonical)

@@ -1,0 +1,78 @@
+-- How large shifts, corners and defining functions are.
+use Rattle.std.proofs.Common.{◌≡◌, ℕ, ◌*◌, ◌-◌, ◌≤◌, List, length, sym, ap, subst, ◌∙◌, arith}
+use Rattle.std.proofs.Math.Nat.{mul-le-mul_left, mul-le-mul_right}
+use Rattle.std.proofs.lemmas.List.{take_all}
+use Rattle.edge_words.specs.Letters.{IsPlace}
+use Rattle.edge_words.specs.Word.{IsWord}
+use Rattle.exp_sums.specs.FormalPoint.{FormalPoint, terms, zero_point, conj, ◌-ₚ◌, ◌*ₚ◌}
+use Rattle.exp_sums.specs.SineForm.{sine_form}
+use Rattle.exp_sums.specs.Limits.{weight, IsWithin, greatest_weight}
+use Rattle.exp_sums.proofs.Weights.{weight-conj, weight-*ₚ, weight_difference}
+use Rattle.exp_sums.proofs.Within.{IsWithin-conj, IsWithin_difference, IsWithin-*ₚ}
+use Rattle.exp_sums.proofs.Reach.{reach_le}
+use Rattle.exp_sums.proofs.SineLimits.{weight-sine_form, IsWithin-sine_form}
+use Rattle.exp_sums.proofs.ProductLimits.{sums_near}
+use Rattle.exp_sums.specs.Products.{SumsAreNear}
+use Rattle.unfolding.specs.Triangle.{mirrors, corner_of, centre_of}
+use Rattle.unfolding.specs.Corners.{upper_corner, lower_corner}
+use Rattle.unfolding.specs.Shift.{IsShift}
+use Rattle.unfolding.proofs.Shifts.{same_shift, shift_from_stable, stable_from_shift}
+use Rattle.unfolding.proofs.Bounds.{weight-centre, within-centre, weight-corner, within-corner, ends_apart}
+use Rattle.defining_functions.specs.Functions.{defining_function, IsWithinFunctionLimits}
+use Rattle.defining_functions.specs.Kept.{IsSmall}
+
+-- the shift is the centre of the last triangle
+shift_is_centre : (w : List ℕ) (v : FormalPoint) → IsWord w → IsShift w v → v ≡ centre_of w (length w)
+shift_is_centre w v word shift =
+    let stable = stable_from_shift w word.letters word.even_length.even (v, shift) in
+    same_shift w v (mirrors w zero_point) shift (shift_from_stable w word.letters word.even_length.even stable)
+    ∙ ap (λ u. mirrors u zero_point) (sym (take_all (length w) w (omega arith)))
+
+pub shift_small : (w : List ℕ) (v : FormalPoint) → IsWord w → IsShift w v → IsSmall v
+shift_small w v word shift =
+    let light = weight-centre w (length w) (omega arith) in
+    subst IsSmall (sym (shift_is_centre w v word shift)) (record {
+      light = omega (arith, light, word.even_length.at_most);
+      within = within-centre w (length w) word (omega arith);
+    })
+
+pub IsSmall-conj : (p : FormalPoint) → IsSmall p → IsSmall (conj p)
+IsSmall-conj p h = record { light = omega (arith, weight-conj p, h.light); within = IsWithin-conj 65 p h.within }
+
+corner_small : (w : List ℕ) (k c : ℕ) → IsWord w → IsPlace w k → IsSmall (corner_of w (k - 1) c)
+corner_small w k c word place =
+    let light = weight-corner w (k - 1) c (omega (arith, place)) in
+    record { light = omega (arith, light, place, word.even_length.at_most); within = within-corner w (k - 1) c word (omega (arith, place)) }
+
+pub upper_small : (w : List ℕ) (k : ℕ) → IsWord w → IsPlace w k → IsSmall (upper_corner w k)
+upper_small w k word place = corner_small w k _ word place
+
+pub lower_small : (w : List ℕ) (k : ℕ) → IsWord w → IsPlace w k → IsSmall (lower_corner w k)
+lower_small w k word place = corner_small w k _ word place
+
+-- the product of two small points
+pub light_product : (p q : FormalPoint) → weight p ≤ 128 → weight q ≤ 128 → weight p * weight q ≤ 16384
+light_product p q h k = omega (arith, mul-le-mul_left (weight p) k, mul-le-mul_right 128 h)
+
+pub function_limits : (w : List ℕ) (v : FormalPoint) (k l : ℕ) → IsWord w → IsShift w v → IsPlace w k → IsPlace w l → IsWithinFunctionLimits (defining_function v w k l)
+unfolding defining_function
+function_limits w v k l word shift upper lower =
+    let way = upper_corner w k -ₚ lower_corner w l in
+    let turned = IsSmall-conj v (shift_small w v word shift) in
+    let apart : weight way ≤ 128 = ends_apart w k l _ _ word upper lower in
+    let way_within : IsWithin 65 way = IsWithin_difference 65 _ _ (upper_small w k word upper).within (lower_small w l word lower).within in
+    let within : IsWithin 130 (sine_form (conj v *ₚ way)) = IsWithin-sine_form 130 (conj v *ₚ way) (IsWithin-*ₚ 65 65 (conj v) way turned.within way_within) in
+    record {
+      within = within;
+      light = omega (arith, weight-sine_form (conj v *ₚ way), weight-*ₚ (conj v) way, light_product (conj v) way turned.light apart);
+      slow = omega (arith, reach_le 130 (sine_form (conj v *ₚ way)) within);
+    }
+
+-- ---- the product of a small point and the difference of two is within the limits of sums
+pub light_way : (t p q : FormalPoint) → IsSmall t → IsSmall p → IsSmall q → weight t * weight (p -ₚ q) ≤ greatest_weight
+light_way t p q h k l =
+    let way : weight (p -ₚ q) ≤ 256 = omega (arith, weight_difference p q, k.light, l.light) in
+    omega (arith, mul-le-mul_left (weight t) way, h.light)
+
+pub near_way : (t p q : FormalPoint) → IsSmall t → IsSmall p → IsSmall q → SumsAreNear (terms t) (terms (p -ₚ q))
+near_way t p q h k l = sums_near 65 65 t (p -ₚ q) (omega arith) h.within (IsWithin_difference 65 p q k.within l.within)

@@ -1,0 +1,24 @@
+use Rattle.std.proofs.Common.{sym, ap, subst, ◌∙◌}
+use Rattle.exp_sums.specs.FormalPoint.{conj}
+use Rattle.unfolding.proofs.Shifts.{same_shift}
+use Rattle.defining_functions.specs.Kept.{IsSmall, IsFunctions}
+use Rattle.defining_functions.proofs.Limits.{IsSmall-conj, shift_small}
+use Rattle.defining_functions.proofs.functions.Functions.along.Goals as goal
+
+pub rows-requires-clause-small : goal.rows-requires-clause-small
+rows-requires-clause-small c = subst IsSmall (sym c.in_ok-turned.ensures) (IsSmall-conj _ (shift_small c.args.u.now c.args.shift.now c.word.ensures.is_word c.requires))
+
+pub rows-requires-clause-turned : goal.rows-requires-clause-turned
+rows-requires-clause-turned c v shift = c.in_ok-turned.ensures ∙ ap conj (same_shift c.args.u.now c.args.shift.now v c.requires shift)
+
+pub invariant_of-result : goal.invariant_of-result
+invariant_of-result c =
+    subst (λ w. IsFunctions w c.in_ok-turned.turned c.in_ok-uppers.uppers.items c.in_ok-lowers.lowers.items c.in_ok-rows.rows.items) (sym (c.in_ok-letters.ensures.items ∙ c.word.ensures.all))
+    (record {
+      word = c.word.ensures.is_word;
+      shift = (c.args.shift.now, c.requires);
+      turned_shift = λ v shift. c.in_ok-turned.ensures ∙ ap conj (same_shift c.args.u.now c.args.shift.now v c.requires shift);
+      each_upper = c.in_ok-uppers.ensures;
+      each_lower = c.in_ok-lowers.ensures;
+      each_row = c.in_ok-rows.ensures;
+    })

@@ -1,0 +1,18 @@
+//! The defining functions of a stable word, which tell whether a triangle has a periodic billiard path with the word:
+//! one for each upper and each lower corner of the word's unfolding, positive where the upper one lies to the left of
+//! the lower one along the shift.
+//!
+//! The one contract of the crate: a [`Functions`] is seen as its word, and its calls answer each function, its weight
+//! and its reach as they are defined by the word's unfolding, within the stated limits.
+#![tactic(auto)]
+
+mod corners;
+mod fault;
+mod form;
+mod functions;
+mod sizes;
+#[cfg(test)]
+mod tests;
+
+pub use fault::FunctionsFault;
+pub use functions::Functions;

@@ -1,0 +1,41 @@
+//! The weight and the reach of terms.
+ghost use Rattle.std.specs.Prelude.{◌≡◌, ◌*◌, ◌≤◌, pos, unsigned_abs};
+ghost use Rattle.std.specs.List.{All};
+ghost use Rattle.exp_sums.specs.Limits.{IsNear, terms_weight, greatest_exponent, greatest_weight};
+ghost use Rattle.exp_sums.specs.Reach.{dir_reach, terms_reach};
+
+use crate::terms::Term;
+
+/// The sum of |c|.
+pub fn weight_of(terms: &[Term]) -> i64
+    requires { terms_weight terms.now ≤ greatest_weight }
+    ensures { result ≡ pos (terms_weight terms.now) }
+{
+    let mut weight = 0;
+    for term in terms {
+        weight += term.c.abs();
+    }
+    weight
+}
+
+/// |c|·(|m| + |n|).
+fn reach_of_term(term: Term) -> i64
+    requires light { unsigned_abs term.c ≤ greatest_weight }
+    requires near { IsNear greatest_exponent term.dir }
+    ensures { result ≡ pos (unsigned_abs term.c * dir_reach term.dir) }
+{
+    term.c.abs() * i64::from(term.dir.m.abs() + term.dir.n.abs())
+}
+
+/// The sum of |c|·(|m| + |n|).
+pub fn reach_of(terms: &[Term]) -> i64
+    requires light { terms_weight terms.now ≤ greatest_weight }
+    requires near { All (λ t. IsNear greatest_exponent t.dir) terms.now }
+    ensures { result ≡ pos (terms_reach terms.now) }
+{
+    let mut reach = 0;
+    for &term in terms {
+        reach += reach_of_term(term);
+    }
+    reach
+}

@@ -1,0 +1,198 @@
+-- Angles over one denominator, and turns of directions over it.
+use Rattle.std.proofs.Common.{◌≡◌, refl, sym, ap, ap₂, ◌∙◌, subst, subst₂, ℕ, ◌*◌, ◌^◌, ◌<◌, ◌≤◌, ℤ, pos, negsuc, ◌+ℤ◌, ◌*ℤ◌, ◌≤ℤ◌, ◌<ℤ◌, unsigned_abs, FitsSigned, to_z, of_z, lit<, arith, mul-pos, mul-le-mul}
+use Rattle.std.specs.Int.{w32, w128}
+use Rattle.std.proofs.lemmas.Int.{ints, to_z-of_z, fits_signed_from_abs}
+use Rattle.ring_solver.specs.Expression.{◌⊞◌, ◌⊠◌}
+use Rattle.ring_solver.proofs.Solver.{ring₅}
+use Rattle.ring_solver.proofs.Whole.{*ℤ_mono}
+use Rattle.rat_core.specs.Fraction.{ℚ, ◌÷◌, whole, ◌+ℚ◌, ◌*ℚ◌, ◌<ℚ◌}
+use Rattle.rat_core.specs.Written.{Written, value}
+use Rattle.rat_core.proofs.Laws.{ℚ_ring, over-mul, over-add, over_lt_back, int-add, int-mul}
+use Rattle.rat_core.proofs.Order.{cancel, over_common}
+use Rattle.directed_fixed.proofs.Rounding.{product_size}
+use Rattle.exp_sums.specs.declared.direction.Dir.{Dir}
+use Rattle.exp_sums.specs.Limits.{IsNear}
+use Rattle.trig_meaning.specs.Value.{turn_of}
+use Rattle.gradient_bounds.specs.declared.angles.Angles.{Angles}
+use Rattle.gradient_bounds.specs.Angles.{IsAngles, first_angle, second_angle}
+
+-- X/d and Y/e over the product of the denominators
+abbrev common : ℤ → ℤ → ℤ → ℤ → Angles
+common X Y D E = record { first = X *ℤ E; second = Y *ℤ D; den = D *ℤ E }
+
+-- the fractions are the angles of a triangle
+pub record IsTriangle (x y : Written) : Type 0 where
+  pub first : whole 0 <ℚ value x
+  pub second : whole 0 <ℚ value y
+  pub third : value x +ℚ value y <ℚ whole 1
+
+-- what is said of the answer
+pub record IsCommon (x y : ℚ) (a : Angles) : Type 0 where
+  pub angles : IsAngles a
+  pub first : first_angle a ≡ x
+  pub second : second_angle a ≡ y
+
+numerator_positive : (X : ℤ) (d : ℕ) → 0 < d → whole 0 <ℚ X ÷ d → pos 0 ≤ℤ X
+numerator_positive X d p h =
+    let above : (pos 0 *ℤ pos d) <ℤ (X *ℤ pos 1) = over_lt_back (pos 0) X 1 d (lit< tt) p h in
+    omega (arith, ints)
+
+product_nonneg : (X : ℤ) (e : ℕ) → pos 0 ≤ℤ X → pos 0 ≤ℤ (X *ℤ pos e)
+product_nonneg X e h =
+    let above : (pos 0 *ℤ pos e) ≤ℤ (X *ℤ pos e) = *ℤ_mono (pos 0) X e h in
+    omega (arith, ints)
+
+common_angles : (X Y : ℤ) (d e : ℕ) → 0 < d → 0 < e → d ≤ 2 ^ 20 → e ≤ 2 ^ 20 → whole 0 <ℚ X ÷ d → whole 0 <ℚ Y ÷ e → X ÷ d +ℚ Y ÷ e <ℚ whole 1 → IsCommon (X ÷ d) (Y ÷ e) (common X Y (pos d) (pos e))
+common_angles X Y d e p q d_small e_small first second third =
+    let positive : 0 < d * e = mul-pos p q in
+    let small : d * e ≤ 2 ^ 20 * 2 ^ 20 = mul-le-mul d_small e_small in
+    let below : ((X *ℤ pos e +ℤ Y *ℤ pos d) *ℤ pos 1) <ℤ (pos 1 *ℤ pos (d * e)) =
+    over_lt_back (X *ℤ pos e +ℤ Y *ℤ pos d) (pos 1) (d * e) 1 positive (lit< tt) (subst (λ t. t <ℚ whole 1) (over-add X Y d e p q) third)
+    in
+    record {
+      angles = record {
+        positive = at_least_one (d * e) positive;
+        small = at_most (d * e) (2 ^ 40) (omega arith);
+        first = product_nonneg X e (numerator_positive X d p first);
+        second = product_nonneg Y d (numerator_positive Y e q second);
+        within = below_at_most (X *ℤ pos e +ℤ Y *ℤ pos d) (d * e) below;
+      };
+      first = over_common X d e p q;
+      second = ap (λ t. (Y *ℤ pos d) ÷ t) (mul_comm d e) ∙ over_common Y e d q p;
+    }
+  where
+    at_least_one : (n : ℕ) → 0 < n → pos 1 ≤ℤ pos n
+    at_least_one n h = omega (arith, ints)
+
+    at_most : (n m : ℕ) → n ≤ m → pos n ≤ℤ pos m
+    at_most n m h = omega (arith, ints)
+
+    below_at_most : (z : ℤ) (n : ℕ) → (z *ℤ pos 1) <ℤ (pos 1 *ℤ pos n) → z ≤ℤ pos n
+    below_at_most z n h = omega (arith, ints)
+
+    mul_comm : (m n : ℕ) → m * n ≡ n * m
+    mul_comm m n = omega arith
+
+-- the same for numbers that are those
+common_at : (x_num y_num x_den y_den X Y : ℤ) (d e : ℕ) → x_num ≡ X → y_num ≡ Y → x_den ≡ pos d → y_den ≡ pos e → IsCommon (X ÷ d) (Y ÷ e) (common X Y (pos d) (pos e)) → IsCommon (X ÷ d) (Y ÷ e) (common x_num y_num x_den y_den)
+common_at x_num y_num x_den y_den X Y d e p q r s h = subst (IsCommon (X ÷ d) (Y ÷ e)) (sym (λ i. common (p i) (q i) (r i) (s i))) h
+
+small_fits : (z : ℤ) → unsigned_abs z < 2 ^ 60 → FitsSigned w128 z
+small_fits z h = fits_signed_from_abs w128 z (omega arith)
+
+product_fits : (a b : ℤ) → unsigned_abs a < 2 ^ 60 → unsigned_abs b < 2 ^ 60 → FitsSigned w128 (a *ℤ b)
+product_fits a b h k = fits_signed_from_abs w128 (a *ℤ b) (omega (arith, product_size a b (2 ^ 60) (2 ^ 60) (omega arith) (omega arith)))
+
+-- a number as the machine keeps it
+abbrev pub kept : ℤ → ℤ
+kept z = to_z w128 (of_z w128 z)
+
+-- X/d and Y/e over the product of the denominators, as the machine computes it
+abbrev pub kept_common : ℤ → ℤ → ℤ → ℤ → Angles
+kept_common X Y D E = record { first = kept (kept X *ℤ kept E); second = kept (kept Y *ℤ kept D); den = kept (kept D *ℤ kept E) }
+
+pub common_computed : (x y : Written) (X Y D E : ℤ) → X ≡ x.num → Y ≡ y.num → D ≡ pos x.den → E ≡ pos y.den → unsigned_abs X < 2 ^ 60 → unsigned_abs Y < 2 ^ 60 → 0 < x.den → 0 < y.den → x.den ≤ 2 ^ 20 → y.den ≤ 2 ^ 20 → IsTriangle x y → IsCommon (value x) (value y) (kept_common X Y D E)
+common_computed x y X Y D E X_is Y_is D_is E_is X_small Y_small positive positive' small small' triangle =
+    let D_small : unsigned_abs D < 2 ^ 60 = omega (arith, ints) in
+    let E_small : unsigned_abs E < 2 ^ 60 = omega (arith, ints) in
+    let X_fits = small_fits X X_small in
+    let Y_fits = small_fits Y Y_small in
+    let D_fits = small_fits D D_small in
+    let E_fits = small_fits E E_small in
+    let first = product_fits X E X_small E_small in
+    let second = product_fits Y D Y_small D_small in
+    let den = product_fits D E D_small E_small in
+    simp to_z-of_z
+    (common_at X Y D E x.num y.num x.den y.den X_is Y_is D_is E_is
+    (common_angles x.num y.num x.den y.den positive positive' small small' triangle.first triangle.second triangle.third))
+
+-- ---- turns
+
+numerator_over : (m n X Y : ℤ) (d : ℕ) → 0 < d → (m *ℤ X +ℤ n *ℤ Y) ÷ d ≡ (m ÷ 1) *ℚ (X ÷ d) +ℚ (n ÷ 1) *ℚ (Y ÷ d)
+numerator_over m n X Y d p =
+    let left : (m *ℤ X +ℤ n *ℤ Y) ÷ d *ℚ whole d ≡ (m ÷ 1) *ℚ (X ÷ 1) +ℚ (n ÷ 1) *ℚ (Y ÷ 1) =
+    over-mul (m *ℤ X +ℤ n *ℤ Y) d p ∙ int-add (m *ℤ X) (n *ℤ Y) ∙ ap₂ ◌+ℚ◌ (int-mul m X) (int-mul n Y)
+    in
+    let right : ((m ÷ 1) *ℚ (X ÷ d) +ℚ (n ÷ 1) *ℚ (Y ÷ d)) *ℚ whole d ≡ (m ÷ 1) *ℚ (X ÷ 1) +ℚ (n ÷ 1) *ℚ (Y ÷ 1) =
+    ring₅ ℚ_ring (λ m n x y d. (m ⊠ x ⊞ n ⊠ y) ⊠ d) (λ m n x y d. m ⊠ (x ⊠ d) ⊞ n ⊠ (y ⊠ d)) refl (m ÷ 1) (n ÷ 1) (X ÷ d) (Y ÷ d) (whole d)
+    ∙ ap₂ (λ s t. (m ÷ 1) *ℚ s +ℚ (n ÷ 1) *ℚ t) (over-mul X d p) (over-mul Y d p)
+    in
+    cancel d p ((m *ℤ X +ℤ n *ℤ Y) ÷ d) ((m ÷ 1) *ℚ (X ÷ d) +ℚ (n ÷ 1) *ℚ (Y ÷ d)) (left ∙ sym right)
+
+numerator_turns : (m n X Y D : ℤ) → pos 1 ≤ℤ D → (m *ℤ X +ℤ n *ℤ Y) ÷ unsigned_abs D ≡ (m ÷ 1) *ℚ (X ÷ unsigned_abs D) +ℚ (n ÷ 1) *ℚ (Y ÷ unsigned_abs D)
+numerator_turns m n X Y (pos d) h = numerator_over m n X Y d (omega (arith, ints))
+numerator_turns m n X Y (negsuc d) h = absurd h.le
+
+-- sizes
+record IsSmallTurn (m n X Y : ℤ) : Type 0 where
+  pub first : unsigned_abs (m *ℤ X) ≤ 2 ^ 51
+  pub second : unsigned_abs (n *ℤ Y) ≤ 2 ^ 51
+  pub all : unsigned_abs (m *ℤ X +ℤ n *ℤ Y) ≤ 2 ^ 52
+
+angle_size : (a : Angles) → IsAngles a → (unsigned_abs a.first ≤ 2 ^ 40) × (unsigned_abs a.second ≤ 2 ^ 40) × (unsigned_abs a.den ≤ 2 ^ 40)
+angle_size a h =
+    let positive = h.positive in
+    let small = h.small in
+    let first = h.first in
+    let second = h.second in
+    let within = h.within in
+    (omega (arith, ints), omega (arith, ints), omega (arith, ints))
+
+sum_size : (p q : ℤ) → unsigned_abs p ≤ 2 ^ 51 → unsigned_abs q ≤ 2 ^ 51 → unsigned_abs (p +ℤ q) ≤ 2 ^ 52
+sum_size p q h k = omega (arith, ints)
+
+small_turn : (m n : ℤ) (a : Angles) → unsigned_abs m ≤ 130 → unsigned_abs n ≤ 130 → IsAngles a → IsSmallTurn m n a.first a.second
+small_turn m n a h k angles =
+    let sizes = angle_size a angles in
+    let first : unsigned_abs (m *ℤ a.first) ≤ 130 * 2 ^ 40 = product_size m a.first 130 (2 ^ 40) h sizes.0 in
+    let second : unsigned_abs (n *ℤ a.second) ≤ 130 * 2 ^ 40 = product_size n a.second 130 (2 ^ 40) k sizes.1 in
+    let first_small : unsigned_abs (m *ℤ a.first) ≤ 2 ^ 51 = omega arith in
+    let second_small : unsigned_abs (n *ℤ a.second) ≤ 2 ^ 51 = omega arith in
+    record { first = first_small; second = second_small; all = sum_size (m *ℤ a.first) (n *ℤ a.second) first_small second_small }
+
+fits_128 : (z : ℤ) → unsigned_abs z ≤ 2 ^ 120 → FitsSigned w128 z
+fits_128 z h = fits_signed_from_abs w128 z (omega arith)
+
+fits_32 : (z : ℤ) → unsigned_abs z ≤ 130 → FitsSigned w32 z
+fits_32 z h = fits_signed_from_abs w32 z (omega arith)
+
+-- the numerator as the machine computes it
+abbrev pub kept_numerator : ℤ → ℤ → Angles → ℤ
+kept_numerator p q a = kept (kept p *ℤ kept a.first) +ℤ kept (kept q *ℤ kept a.second)
+
+-- what is said of it
+pub record IsNumerator (dir : Dir) (a : Angles) (z : ℤ) : Type 0 where
+  pub fits : FitsSigned w128 z
+  pub size : unsigned_abs (kept z) ≤ 2 ^ 52
+  pub turn : kept z ÷ unsigned_abs a.den ≡ turn_of dir (first_angle a) (second_angle a)
+
+numerator_exactly : (dir : Dir) (a : Angles) → IsNear 130 dir → IsAngles a → IsNumerator dir a (kept_numerator dir.m dir.n a)
+numerator_exactly dir a near angles =
+    let small = small_turn dir.m dir.n a near.m near.n angles in
+    let sizes = angle_size a angles in
+    let m_fits : FitsSigned w128 dir.m = fits_128 dir.m (omega (arith, near.m)) in
+    let n_fits : FitsSigned w128 dir.n = fits_128 dir.n (omega (arith, near.n)) in
+    let first_fits : FitsSigned w128 a.first = fits_128 a.first (omega (arith, sizes.0)) in
+    let second_fits : FitsSigned w128 a.second = fits_128 a.second (omega (arith, sizes.1)) in
+    let den_fits : FitsSigned w128 a.den = fits_128 a.den (omega (arith, sizes.2)) in
+    let first_product : FitsSigned w128 (dir.m *ℤ a.first) = fits_128 (dir.m *ℤ a.first) (omega (arith, small.first)) in
+    let second_product : FitsSigned w128 (dir.n *ℤ a.second) = fits_128 (dir.n *ℤ a.second) (omega (arith, small.second)) in
+    let sum : FitsSigned w128 (dir.m *ℤ a.first +ℤ dir.n *ℤ a.second) = fits_128 (dir.m *ℤ a.first +ℤ dir.n *ℤ a.second) (omega (arith, small.all)) in
+    record {
+      fits = simp to_z-of_z sum;
+      size = simp to_z-of_z small.all;
+      turn = simp to_z-of_z (numerator_turns dir.m dir.n a.first a.second a.den angles.positive);
+    }
+
+pub numerator_computed : (dir : Dir) (a : Angles) (p q : ℤ) → IsNear 130 dir → IsAngles a → p ≡ to_z w32 (of_z w32 dir.m) → q ≡ to_z w32 (of_z w32 dir.n) → IsNumerator dir a (kept_numerator p q a)
+numerator_computed dir a p q near angles p_is q_is =
+    let m : p ≡ dir.m = p_is ∙ to_z-of_z w32 dir.m (fits_32 dir.m near.m) in
+    let n : q ≡ dir.n = q_is ∙ to_z-of_z w32 dir.n (fits_32 dir.n near.n) in
+    subst₂ (λ s t. IsNumerator dir a (kept_numerator s t a)) (sym m) (sym n) (numerator_exactly dir a near angles)
+
+-- the turn at the machine's numbers
+pub turn_computed : (dir : Dir) (a : Angles) (z : ℤ) → IsAngles a → unsigned_abs z ≤ 2 ^ 52 → z ÷ unsigned_abs a.den ≡ turn_of dir (first_angle a) (second_angle a) → kept z ÷ unsigned_abs (kept a.den) ≡ turn_of dir (first_angle a) (second_angle a)
+turn_computed dir a z angles small is =
+    let z_fits : FitsSigned w128 z = fits_128 z (omega arith) in
+    let den_fits : FitsSigned w128 a.den = fits_128 a.den (omega (arith, (angle_size a angles).2)) in
+    simp to_z-of_z is
