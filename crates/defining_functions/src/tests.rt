@@ -40,3 +40,83 @@ fn refuses_121323(rt: HostRuntime) -> Result<(), Fail> {
     assert!(rt; refused == Some(FunctionsFault::NotTranslate));
     Ok(())
 }
+
+// With S = sin 2πx + sin 2πy − sin 2π(x + y) each function of 123123 is 2S times one of 1 − cos 2πx, 1 − cos 2πy,
+// 1 − cos 2π(x + y), and 1 with two of these three cosines taken away and the third added.
+fn is_one_of_six(terms: &[Term]) -> bool {
+    let form_1 = [
+        term(0, 2, 3),
+        term(2, -2, 1),
+        term(2, 0, 2),
+        term(2, 2, -3),
+        term(4, 0, -1),
+        term(4, 2, 1),
+    ];
+    let form_2 = [
+        term(0, 2, 2),
+        term(0, 4, -1),
+        term(2, -2, -1),
+        term(2, 0, 3),
+        term(2, 2, -3),
+        term(2, 4, 1),
+    ];
+    let form_3 = [
+        term(0, 2, 3),
+        term(2, 0, 3),
+        term(2, 2, -2),
+        term(2, 4, -1),
+        term(4, 2, -1),
+        term(4, 4, 1),
+    ];
+    let form_4 = [
+        term(0, 2, 2),
+        term(0, 4, -1),
+        term(2, 0, 2),
+        term(2, 2, -4),
+        term(2, 4, 2),
+        term(4, 0, -1),
+        term(4, 2, 2),
+        term(4, 4, -1),
+    ];
+    let form_5 = [
+        term(0, 2, 4),
+        term(0, 4, 1),
+        term(2, -2, 2),
+        term(2, 0, 2),
+        term(2, 2, -2),
+        term(2, 4, -2),
+        term(4, 0, -1),
+        term(4, 4, 1),
+    ];
+    let form_6 = [
+        term(0, 2, 2),
+        term(0, 4, -1),
+        term(2, -2, -2),
+        term(2, 0, 4),
+        term(2, 2, -2),
+        term(4, 0, 1),
+        term(4, 2, -2),
+        term(4, 4, 1),
+    ];
+    terms == form_1.as_slice()
+        || terms == form_2.as_slice()
+        || terms == form_3.as_slice()
+        || terms == form_4.as_slice()
+        || terms == form_5.as_slice()
+        || terms == form_6.as_slice()
+}
+
+#[test]
+fn tells_all_functions_of_123123(rt: HostRuntime) -> Result<(), Fail> {
+    let word = Word::read(rt.alloc(), b"123123")?;
+    let unfolding = Unfolding::of(rt.alloc(), &word)?;
+    let functions = Functions::of(rt.alloc(), &unfolding)?;
+    assert_eq!(rt; functions.letters(), 6);
+    for k in 1..=6 {
+        for l in 1..=6 {
+            let function = functions.function(rt.alloc(), k, l)?;
+            assert!(rt; is_one_of_six(function.terms()));
+        }
+    }
+    Ok(())
+}
