@@ -7,12 +7,16 @@ use Rattle.edge_words.specs.Reading.{Spells}
 use Rattle.edge_words.specs.Stable.{IsStable}
 use Rattle.edge_words.proofs.Digits.{digits_of-injective}
 use Rattle.gradient_bounds.specs.Clear.{IsClearAtPoint, slack}
-use Rattle.billiards_cli.specs.Answers.{over}
-use Rattle.billiards_cli.specs.Requests.{Request, Word, At}
-use Rattle.billiards_cli.specs.WordInput.{IsWordLine, SpellsWord, Offends}
+use Rattle.billiards_cli.specs.Answers.{greatest_tree, over}
+use Rattle.covering_file.specs.Input.{MayBe}
+use Rattle.covering_file.specs.Verdicts.{IsRefused, IsSureFile}
+use Rattle.covering_file.proofs.Sure.{sure_is_not_refused}
+use Rattle.billiards_cli.specs.Requests.{Request, Word, Check, At}
+use Rattle.billiards_cli.specs.WordInput.{IsWordLine, Offends}
+use Rattle.covering_file.specs.HeaderOffence.{SpellsWord}
 use Rattle.billiards_cli.specs.Services.{Serves, Stands, IsDecided}
-use Rattle.billiards_cli.specs.declared.reason.Reason.{Reason}
-use Rattle.billiards_cli.specs.declared.reason.Reason.TheVariants as reason
+use Rattle.covering_file.specs.declared.reason.Reason.{Reason}
+use Rattle.covering_file.specs.declared.reason.Reason.TheVariants as reason
 use Rattle.billiards_cli.specs.declared.status.Status.{Status}
 use Rattle.billiards_cli.specs.declared.status.Status.TheVariants.{Done, NotShown, Usage, Malformed, ReadFault, WriteFault, OutOfMemory, Full}
 
@@ -30,10 +34,15 @@ word_line_is_fine bytes w number reason.NotAWord line offends =
     let other = offends.1 in
     let same : line.0 ≡ other.0 = let both = (IsNext-unique bytes (Text line.0) (Text other.0) [] other.1 line.1 other.2).0 in cc in
     other.3 (subst (λ (x : List ℕ). SpellsWord x) same (w, line.2))
-word_line_is_fine bytes w number reason.UnstableWord line offends = offends
 word_line_is_fine bytes w number reason.EndLine line offends =
     let other = offends.1 in
     other.4 (sym (IsNext-unique bytes (Text line.0) (Text other.0) [] other.1 line.1 other.2).1)
+word_line_is_fine bytes w number why line offends = offends
+
+sure_is_fine : (left : Option (List ℕ)) (bytes input : List ℕ) (line : ℕ) (why : Reason) → left ≡ Some bytes → MayBe left input → IsSureFile greatest_tree bytes → IsRefused greatest_tree line why input → ⊥
+sure_is_fine left bytes input line why told is sure refused =
+    let same : bytes ≡ input = subst (λ (x : Option (List ℕ)). MayBe x input) told is in
+    sure_is_not_refused greatest_tree input line why (subst (IsSureFile greatest_tree) same sure) refused
 
 decided : (left left' : Option (List ℕ)) (source source' : ℕ) (written written' : Option (List ℕ)) (sink sink' : ℕ) (status : Status)
     → Serves Word left left' source source' written written' sink sink' status → status ≢ Usage → Stands source source' → Stands sink sink' → IsDecided Word left status
@@ -81,11 +90,29 @@ decided_at word p q d left left' source source' written written' sink sink' Read
 decided_at word p q d left left' source source' written written' sink sink' WriteFault serves meant read wrote = absurd (not_risen sink sink' wrote serves.counts.1)
 decided_at word p q d left left' source source' written written' sink sink' Full serves meant read wrote = absurd serves.text.1
 
+-- a file with a sure tree is not refused
+decided_check : (left left' : Option (List ℕ)) (source source' : ℕ) (written written' : Option (List ℕ)) (sink sink' : ℕ) (status : Status)
+    → Serves Check left left' source source' written written' sink sink' status → status ≢ Usage → Stands source source' → Stands sink sink' → IsDecided Check left status
+decided_check left left' source source' written written' sink sink' Done serves meant read wrote bytes told sure = inl refl
+decided_check left left' source source' written written' sink sink' OutOfMemory serves meant read wrote bytes told sure = inr refl
+decided_check left left' source source' written written' sink sink' Malformed serves meant read wrote bytes told sure =
+    let answer = serves.text.1 in
+    absurd (sure_is_fine left bytes answer.0 answer.2.0 answer.2.1 told answer.1 sure answer.2.2)
+decided_check left left' source source' written written' sink sink' NotShown serves meant read wrote bytes told sure =
+    let answer = serves.text.1 in
+    absurd (sure_is_fine left bytes answer.0 answer.2.0 answer.2.1 told answer.1 sure answer.2.2)
+decided_check left left' source source' written written' sink sink' Usage serves meant read wrote bytes told sure = absurd (meant refl)
+decided_check left left' source source' written written' sink sink' ReadFault serves meant read wrote bytes told sure = absurd (not_risen source source' read serves.counts.0)
+decided_check left left' source source' written written' sink sink' WriteFault serves meant read wrote bytes told sure = absurd (not_risen sink sink' wrote serves.counts.1)
+decided_check left left' source source' written written' sink sink' Full serves meant read wrote bytes told sure = absurd serves.text.1.2
+
 -- what the words ask is decided
 pub decided_if_asked : (asked : Option Request) (request : Request) (left left' : Option (List ℕ)) (source source' : ℕ) (written written' : Option (List ℕ)) (sink sink' : ℕ) (status : Status)
     → asked ≡ Some request → Serves request left left' source source' written written' sink sink' status → status ≢ Usage → Stands source source' → Stands sink sink'
     → IfSome asked (λ request. IsDecided request left status)
 decided_if_asked asked Word left left' source source' written written' sink sink' status is serves meant read wrote =
     rw is (decided left left' source source' written written' sink sink' status serves meant read wrote)
+decided_if_asked asked Check left left' source source' written written' sink sink' status is serves meant read wrote =
+    rw is (decided_check left left' source source' written written' sink sink' status serves meant read wrote)
 decided_if_asked asked (At word p q d) left left' source source' written written' sink sink' status is serves meant read wrote =
     rw is (decided_at word p q d left left' source source' written written' sink sink' status serves meant read wrote)

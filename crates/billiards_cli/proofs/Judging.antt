@@ -9,13 +9,14 @@ use Rattle.mcb_ends.specs.Reader.{Reader, bytes_before, Takes, IsLine, HandsOut}
 use Rattle.edge_words.specs.Reading.{Spells, Reads}
 use Rattle.edge_words.specs.declared.fault.WordFault.{WordFault}
 use Rattle.edge_words.proofs.OneWay.{reads_one_way}
-use Rattle.billiards_cli.specs.Answers.{MayBe}
-use Rattle.billiards_cli.specs.WordInput.{SpellsWord, Offends}
+use Rattle.covering_file.specs.Input.{MayBe}
+use Rattle.billiards_cli.specs.WordInput.{Offends}
+use Rattle.covering_file.specs.HeaderOffence.{SpellsWord}
 use Rattle.billiards_cli.specs.Verdicts.{IsJudged, IsRestJudged}
 use Rattle.billiards_cli.specs.declared.commands.word.Verdict.{Verdict}
 use Rattle.billiards_cli.specs.declared.commands.word.Verdict.TheVariants.{Whole, Refused}
-use Rattle.billiards_cli.specs.declared.reason.Reason.{Reason}
-use Rattle.billiards_cli.specs.declared.reason.Reason.TheVariants as reason
+use Rattle.covering_file.specs.declared.reason.Reason.{Reason}
+use Rattle.covering_file.specs.declared.reason.Reason.TheVariants as reason
 
 -- the bytes before a new reader are those of the source
 pub bytes_before-new : (reader : Reader) (left : Option (List ℕ)) → reader.held ≡ [] → reader.is_done ≡ false → bytes_before reader left ≡ left
@@ -74,7 +75,7 @@ behind None after line form takes rest is = (line ++ newline ∷ rest, tt, (form
 behind (Some bytes) None line form takes rest is = absurd takes
 behind (Some bytes) (Some told) line form takes rest is = (bytes, refl, subst (λ (xs : List ℕ). IsNext bytes (Text line) xs) is takes)
 
-some_rest : (after : Option (List ℕ)) → (rest : List ℕ) × MayBe after rest
+pub some_rest : (after : Option (List ℕ)) → (rest : List ℕ) × MayBe after rest
 some_rest None = ([], tt)
 some_rest (Some rest) = (rest, refl)
 

@@ -1,5 +1,6 @@
 pub mod Judging
 pub mod Serving
+pub mod ServingCheck
 pub mod Deciding
 pub mod Numbers
 pub mod Triangles

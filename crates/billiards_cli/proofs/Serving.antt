@@ -11,8 +11,8 @@ use Rattle.billiards_cli.specs.Answers.{IsWordText, IsAtAnswer}
 use Rattle.billiards_cli.specs.Requests.{Word, At}
 use Rattle.billiards_cli.specs.Texts.{shift_text, unstable_text, refused_text, argument_text}
 use Rattle.billiards_cli.specs.AtVerdicts.{IsRefusable}
-use Rattle.billiards_cli.specs.declared.reason.Reason.{Reason}
-use Rattle.billiards_cli.specs.declared.reason.Reason.TheVariants as reason
+use Rattle.covering_file.specs.declared.reason.Reason.{Reason}
+use Rattle.covering_file.specs.declared.reason.Reason.TheVariants as reason
 use Rattle.billiards_cli.specs.Services.{Serves}
 use Rattle.billiards_cli.specs.Verdicts.{IsJudged, AnswersWord, WritesShift, status_after}
 use Rattle.billiards_cli.specs.declared.commands.word.Verdict.TheVariants.{Whole, Refused}
@@ -75,8 +75,6 @@ served_at_open word p q d left source old new faults faults' text status right b
 
 -- a refused argument has the text of its reason
 pub refused_at : (word : List ℕ) (p q d : ℕ) (reason : Reason) → IsRefusable word reason → IsAtAnswer word p q d Malformed (argument_text reason)
-refused_at word p q d reason.TooLong none = absurd none
-refused_at word p q d reason.Ends none = absurd none
 refused_at word p q d reason.NotAWord none = inl (none, refl)
 refused_at word p q d reason.UnstableWord unstable = inr (unstable.0, unstable.1, unstable.2, refl)
-refused_at word p q d reason.EndLine none = absurd none
+refused_at word p q d reason none = absurd none

@@ -1,5 +1,5 @@
 -- The right answers to a request: the status and the text that go with an input.
-use Rattle.std.specs.Prelude.{◌≡◌, ℕ, pos, List, [], ◌⊎◌, ⊤, Some, None}
+use Rattle.std.specs.Prelude.{◌≡◌, ℕ, pos, List, [], ◌⊎◌}
 use Rattle.std.specs.declared.option.Option.{Option}
 use Rattle.exp_sums.specs.FormalPoint.{FormalPoint}
 use Rattle.edge_words.specs.Stable.{IsStable}
@@ -8,11 +8,15 @@ use Rattle.edge_words.specs.Reading.{Spells}
 use Rattle.rat_core.specs.Fraction.{ℚ, ◌÷◌}
 use Rattle.gradient_bounds.specs.Corridor.{HasCorridor}
 use Rattle.gradient_bounds.specs.Clear.{IsClearAtPoint, slack}
-use Rattle.billiards_cli.specs.Requests.{Request, Word, At}
-use Rattle.billiards_cli.specs.Texts.{shift_text, unstable_text, refused_text, argument_text, open_text, not_shown_text}
-use Rattle.billiards_cli.specs.WordInput.{SpellsWord, IsWordLine, Offends}
-use Rattle.billiards_cli.specs.declared.reason.Reason.{Reason}
-use Rattle.billiards_cli.specs.declared.reason.Reason.TheVariants.{NotAWord, UnstableWord}
+use Rattle.billiards_cli.specs.Requests.{Request, Word, Check, At}
+use Rattle.billiards_cli.specs.Texts.{shift_text, unstable_text, refused_text, accepted_text, argument_text, open_text, not_shown_text}
+use Rattle.billiards_cli.specs.WordInput.{IsWordLine, Offends}
+use Rattle.covering_file.specs.declared.reason.Reason.{Reason}
+use Rattle.covering_file.specs.declared.reason.Reason.TheVariants as reason
+use Rattle.covering_file.specs.declared.reason.Reason.TheVariants.{NotAWord, UnstableWord}
+use Rattle.covering_file.specs.HeaderOffence.{SpellsWord}
+use Rattle.covering_file.specs.Input.{MayBe}
+use Rattle.covering_file.specs.Verdicts.{IsAccepted, IsRefused}
 use Rattle.billiards_cli.specs.declared.status.Status.{Status}
 use Rattle.billiards_cli.specs.declared.status.Status.TheVariants.{Done, NotShown, Malformed, OutOfMemory}
 
@@ -39,12 +43,27 @@ IsAtAnswer word p q d Malformed text = (¬ (SpellsWord word) × (text ≡ argume
 IsAtAnswer word p q d OutOfMemory text = (w : List ℕ) × Spells word w × IsStable w × (text ≡ [])
 IsAtAnswer word p q d status text = ⊥
 
--- the input is these bytes, where the source tells them, and may be any others where it does not
-abbrev pub MayBe : Option (List ℕ) → List ℕ → Type 0
-MayBe None bytes = ⊤
-MayBe (Some input) bytes = input ≡ bytes
+-- the greatest number of nodes of a covering file
+abbrev pub greatest_tree : ℕ
+greatest_tree = 2000000
+
+-- what a refusal of a covering file says: that something is not shown, or that the file is malformed
+abbrev pub refusal_status : Reason → Status
+refusal_status reason.NotApart = NotShown
+refusal_status reason.NotShown = NotShown
+refusal_status reason.Uncovered = NotShown
+refusal_status reason = Malformed
+
+-- `check` is done where the input is accepted. Else it names the first line that can be refused, and its least reason. Where memory is wanting it writes nothing.
+abbrev pub IsCheckAnswer : List ℕ → Status → List ℕ → Type 0
+IsCheckAnswer input Done text = (nodes words : ℕ) × IsAccepted greatest_tree nodes words input × (text ≡ accepted_text nodes words)
+IsCheckAnswer input NotShown text = (line : ℕ) × (reason : Reason) × IsRefused greatest_tree line reason input × (refusal_status reason ≡ NotShown) × (text ≡ refused_text line reason)
+IsCheckAnswer input Malformed text = (line : ℕ) × (reason : Reason) × IsRefused greatest_tree line reason input × (refusal_status reason ≡ Malformed) × (text ≡ refused_text line reason)
+IsCheckAnswer input OutOfMemory text = text ≡ []
+IsCheckAnswer input status text = ⊥
 
 -- the status and the text are a right answer to the request on this input
 abbrev pub IsAnswer : Request → Option (List ℕ) → Status → List ℕ → Type 0
 IsAnswer Word input status text = (bytes : List ℕ) × MayBe input bytes × IsWordAnswer bytes status text
+IsAnswer Check input status text = (bytes : List ℕ) × MayBe input bytes × IsCheckAnswer bytes status text
 IsAnswer (At word p q d) input status text = IsAtAnswer word p q d status text

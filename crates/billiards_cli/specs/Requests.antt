@@ -8,6 +8,8 @@ use Rattle.std.specs.Str.Parse.{digits_value}
 pub data Request : Type 0 where
   -- a word that is read from the input
   Word : Request
+  -- a covering file that is read from the input
+  Check : Request
   -- a word, and the triangle (p / d, q / d)
   At : List ℕ → ℕ → ℕ → ℕ → Request
 
@@ -32,11 +34,12 @@ at_request word (Some p) (Some q) None = None
 
 -- the table of commands: the request that the words make, or none
 abbrev pub request_of : List (List ℕ) → Option Request
-request_of (name ∷ []) = if bytes_eq name (codes "word") then Some Word else None
+request_of (name ∷ []) = if bytes_eq name (codes "word") then Some Word else (if bytes_eq name (codes "check") then Some Check else None)
 request_of (name ∷ word ∷ p ∷ q ∷ d ∷ []) = if bytes_eq name (codes "at") then at_request word (number_of_text p) (number_of_text q) (number_of_text d) else None
 request_of words = None
 
 -- whether a command reads the input
 abbrev pub reads_input : Request → Bool
 reads_input Word = true
+reads_input Check = true
 reads_input (At word p q d) = false

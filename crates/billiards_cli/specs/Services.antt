@@ -1,13 +1,15 @@
 -- What a run does to its source and its sink.
-use Rattle.std.specs.Prelude.{◌≡◌, ℕ, ◌<◌, ◌-◌, ◌^◌, List, [], ⊤, ◌⊎◌}
+use Rattle.std.specs.Prelude.{◌≡◌, ℕ, ◌<◌, ◌-◌, ◌^◌, List, [], ⊤, ◌⊎◌, Some}
 use Rattle.std.specs.Bool.{OnTrue}
 use Rattle.std.specs.declared.option.Option.{Option}
 use Rattle.std.specs.Io.KnownBytes.{Appends, IsAtEnd}
 use Rattle.mcb_ends.specs.Bytes.{AppendsPrefix}
 use Rattle.mcb_ends.specs.Causes.{Rose}
-use Rattle.billiards_cli.specs.Requests.{Request, Word, At, reads_input}
+use Rattle.billiards_cli.specs.Requests.{Request, Word, Check, At, reads_input}
 use Rattle.billiards_cli.specs.WordInput.{IsWordLine}
-use Rattle.billiards_cli.specs.Answers.{IsAnswer, MayBe, over}
+use Rattle.billiards_cli.specs.Answers.{IsAnswer, greatest_tree, over}
+use Rattle.covering_file.specs.Input.{MayBe}
+use Rattle.covering_file.specs.Verdicts.{IsSureFile}
 use Rattle.edge_words.specs.Reading.{Spells}
 use Rattle.edge_words.specs.Stable.{IsStable}
 use Rattle.gradient_bounds.specs.Clear.{IsClearAtPoint, slack}
@@ -64,6 +66,10 @@ pub record IsWordDecided (input : List ℕ) (status : Status) : Type 0 where
   pub done : (w : List ℕ) → IsWordLine input w → (status ≡ Done) ⊎ (status ≡ OutOfMemory)
   pub refused : ¬ ((w : List ℕ) × IsWordLine input w) → status ≡ Malformed
 
+-- `check` is done on every file with a sure tree, unless memory is wanting
+abbrev pub IsCheckDecided : List ℕ → Status → Type 0
+IsCheckDecided input status = IsSureFile greatest_tree input → (status ≡ Done) ⊎ (status ≡ OutOfMemory)
+
 -- `at` is done where the word is stable and clear with the wider slack, unless memory is wanting, and refuses what is no stable word
 pub record IsAtDecided (word : List ℕ) (p q d : ℕ) (status : Status) : Type 0 where
   pub done : (w : List ℕ) → Spells word w → IsClearAtPoint w (over p d) (over q d) (slack 40) → (status ≡ Done) ⊎ (status ≡ OutOfMemory)
@@ -72,4 +78,5 @@ pub record IsAtDecided (word : List ℕ) (p q d : ℕ) (status : Status) : Type 
 -- the status that a request has to have where nothing outside fails
 abbrev pub IsDecided : Request → Option (List ℕ) → Status → Type 0
 IsDecided Word input status = (bytes : List ℕ) × MayBe input bytes × IsWordDecided bytes status
+IsDecided Check input status = (bytes : List ℕ) → input ≡ Some bytes → IsCheckDecided bytes status
 IsDecided (At word p q d) input status = IsAtDecided word p q d status

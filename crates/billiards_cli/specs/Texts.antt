@@ -4,8 +4,8 @@ use Rattle.std.specs.List.{concat, flat_map}
 use Rattle.std.specs.Fmt.{decimal, signed_decimal}
 use Rattle.exp_sums.specs.declared.terms.Term.{Term}
 use Rattle.exp_sums.specs.FormalPoint.{FormalPoint, terms}
-use Rattle.billiards_cli.specs.declared.reason.Reason.{Reason}
-use Rattle.billiards_cli.specs.declared.reason.Reason.TheVariants.{TooLong, Ends, NotAWord, UnstableWord, EndLine}
+use Rattle.covering_file.specs.declared.reason.Reason.{Reason}
+use Rattle.covering_file.specs.Offence.{number_of}
 
 abbrev pub newline : List ℕ
 newline = 10 ∷ []
@@ -28,14 +28,6 @@ shift_text v = codes "stable\n" ++ (terms_text (terms v) ++ end_text (length (te
 abbrev pub unstable_text : List ℕ
 unstable_text = codes "unstable\n"
 
--- the number by which a refusal names its reason
-abbrev pub number_of : Reason → ℕ
-number_of TooLong = 1
-number_of Ends = 2
-number_of NotAWord = 7
-number_of UnstableWord = 8
-number_of EndLine = 13
-
 -- the line of the input that is refused, counted from 1, and why
 abbrev pub refused_text : ℕ → Reason → List ℕ
 refused_text line reason = concat (codes "refused line=" ∷ decimal line ∷ codes " reason=" ∷ decimal (number_of reason) ∷ newline ∷ [])
@@ -43,6 +35,10 @@ refused_text line reason = concat (codes "refused line=" ∷ decimal line ∷ co
 -- an argument that is refused, and why
 abbrev pub argument_text : Reason → List ℕ
 argument_text reason = concat (codes "refused argument reason=" ∷ decimal (number_of reason) ∷ newline ∷ [])
+
+-- an accepted covering file: how many nodes its tree has, and how many words it lists
+abbrev pub accepted_text : ℕ → ℕ → List ℕ
+accepted_text nodes words = concat (codes "accepted nodes=" ∷ decimal nodes ∷ codes " words=" ∷ decimal words ∷ newline ∷ [])
 
 -- whether the corridor of a word was shown to be open at a triangle
 abbrev pub open_text : List ℕ

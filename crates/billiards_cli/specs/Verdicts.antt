@@ -8,10 +8,11 @@ use Rattle.mcb_ends.specs.Causes.{Rose}
 use Rattle.edge_words.specs.Stable.{IsStable}
 use Rattle.exp_sums.specs.FormalPoint.{FormalPoint}
 use Rattle.unfolding.specs.Shift.{IsShift}
-use Rattle.billiards_cli.specs.Answers.{IsWordText, MayBe}
+use Rattle.billiards_cli.specs.Answers.{IsWordText}
+use Rattle.covering_file.specs.Input.{MayBe}
 use Rattle.billiards_cli.specs.Texts.{shift_text}
 use Rattle.billiards_cli.specs.WordInput.{IsWordLine, Offends}
-use Rattle.billiards_cli.specs.declared.reason.Reason.TheVariants.{EndLine}
+use Rattle.covering_file.specs.declared.reason.Reason.TheVariants.{EndLine}
 use Rattle.billiards_cli.specs.declared.status.Status.{Status}
 use Rattle.billiards_cli.specs.declared.status.Status.TheVariants.{Done, WriteFault, OutOfMemory}
 use Rattle.billiards_cli.specs.declared.commands.word.Verdict.{Verdict}

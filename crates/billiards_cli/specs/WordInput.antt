@@ -3,12 +3,9 @@ use Rattle.std.specs.Prelude.{◌≡◌, ◌≢◌, ℕ, ◌⊎◌, List, []}
 use Rattle.mcb_ends.specs.Lines.{IsNext}
 use Rattle.mcb_ends.specs.Lines as next
 use Rattle.edge_words.specs.Reading.{Spells}
-use Rattle.billiards_cli.specs.declared.reason.Reason.{Reason}
-use Rattle.billiards_cli.specs.declared.reason.Reason.TheVariants.{TooLong, Ends, NotAWord, UnstableWord, EndLine}
-
--- the line spells a word
-abbrev pub SpellsWord : List ℕ → Type 0
-SpellsWord line = (w : List ℕ) × Spells line w
+use Rattle.covering_file.specs.declared.reason.Reason.{Reason}
+use Rattle.covering_file.specs.declared.reason.Reason.TheVariants.{TooLong, Ends, NotAWord, EndLine}
+use Rattle.covering_file.specs.HeaderOffence.{SpellsWord}
 
 -- the input is one whole line, which spells the word w, and nothing after it
 abbrev pub IsWordLine : List ℕ → List ℕ → Type 0
@@ -19,5 +16,5 @@ abbrev pub Offends : List ℕ → ℕ → Reason → Type 0
 Offends input line TooLong = (line ≡ 1) × IsNext input next.TooLong []
 Offends input line Ends = (line ≡ 1) × (IsNext input next.CutShort [] ⊎ IsNext input next.End [])
 Offends input line NotAWord = (line ≡ 1) × ((first rest : List ℕ) × IsNext input (next.Text first) rest × ¬ (SpellsWord first))
-Offends input line UnstableWord = ⊥
 Offends input line EndLine = (line ≡ 2) × ((first rest : List ℕ) × IsNext input (next.Text first) rest × SpellsWord first × (rest ≢ []))
+Offends input line reason = ⊥

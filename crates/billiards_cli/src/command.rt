@@ -13,6 +13,7 @@ const MAX_NUMBER: u32 = 1_048_576;
 #[derive(Clone, Copy)]
 pub(crate) enum Command<'a> {
     Word,
+    Check,
     At {
         word: &'a [u8],
         p: u32,
@@ -28,6 +29,7 @@ pub(crate) fn parse(words: &Args) -> Option<Command<'_>>
 {
     match words.len() {
         1 if words.word(0) == b"word".as_slice() => Some(Command::Word),
+        1 if words.word(0) == b"check".as_slice() => Some(Command::Check),
         5 if words.word(0) == b"at".as_slice() => parse_at(
             words.word(1),
             words.word(2),

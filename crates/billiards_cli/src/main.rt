@@ -4,11 +4,15 @@
 //! status the process ends with, and which fault of the outside may be laid to it.
 #![tactic(auto)]
 
+mod acceptance;
 mod args;
+#[cfg(test)]
+mod check_tests;
 mod command;
 mod commands;
+#[cfg(test)]
+mod fixtures;
 mod program;
-mod reason;
 mod refusal;
 mod shift;
 mod status;
@@ -19,7 +23,6 @@ mod usage;
 pub use args::Args;
 use mcb_ends::{StdSink, StdSource};
 pub use program::run;
-pub use reason::Reason;
 pub use status::Status;
 use std::alloc::Global;
 use std::env::Env;

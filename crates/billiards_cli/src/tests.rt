@@ -1,35 +1,26 @@
-use crate::{Args, Status, run};
-use mcb_ends::{MemSink, MemSource};
-use std::alloc::{AllocError, Global};
+use crate::fixtures::{assert_answer, assert_faults, sink, source, words_of};
+use crate::{Status, run};
 use std::test::Fail;
 
-const SHIFT: &[u8] = b"stable\n-3 -3 1\n-3 -1 -1\n-1 -3 -1\n-1 1 1\n1 -1 1\n1 1 -1\nend 6\n";
+const SHIFT: &str = "stable\n-3 -3 1\n-3 -1 -1\n-1 -3 -1\n-1 1 1\n1 -1 1\n1 1 -1\nend 6\n";
 
-const SHIFT_OF_TEN: &[u8] =
-    b"stable\n-3 -3 10\n-3 -1 -10\n-1 -3 -10\n-1 1 10\n1 -1 10\n1 1 -10\nend 6\n";
+const SHIFT_OF_TEN: &str =
+    "stable\n-3 -3 10\n-3 -1 -10\n-1 -3 -10\n-1 1 10\n1 -1 10\n1 1 -10\nend 6\n";
 
-const NO_WORD: &[u8] = b"refused line=1 reason=7\n";
+const NO_WORD: &str = "refused line=1 reason=7\n";
 
-const CUT_SHORT: &[u8] = b"refused line=1 reason=2\n";
+const CUT_SHORT: &str = "refused line=1 reason=2\n";
 
-const TOO_LONG: &[u8] = b"refused line=1 reason=1\n";
+const TOO_LONG: &str = "refused line=1 reason=1\n";
 
-const MORE: &[u8] = b"refused line=2 reason=13\n";
-
-fn words_of(alloc: Global, words: &[&str]) -> Result<Args, AllocError> {
-    let mut args = Args::new(alloc);
-    for word in words {
-        args.push(word)?;
-    }
-    Ok(args)
-}
+const MORE: &str = "refused line=2 reason=13\n";
 
 // What `mcb word` writes on an input.
 #[test]
 fn word_answers_its_input(rt: HostRuntime) -> Result<(), Fail> {
-    let rows: [(&[u8], Status, &[u8]); 14] = [
+    let rows: [(&[u8], Status, &str); 14] = [
         (b"123123\n", Status::Done, SHIFT),
-        (b"121323\n", Status::Done, b"unstable\n"),
+        (b"121323\n", Status::Done, "unstable\n"),
         (
             b"123123123123123123123123123123123123123123123123123123123123\n",
             Status::Done,
@@ -38,7 +29,7 @@ fn word_answers_its_input(rt: HostRuntime) -> Result<(), Fail> {
         (
             b"1212121212121212121212121212121212121212121212121212121212121212\n",
             Status::Done,
-            b"unstable\n",
+            "unstable\n",
         ),
         (b"123121\n", Status::Malformed, NO_WORD),
         (
@@ -65,37 +56,15 @@ fn word_answers_its_input(rt: HostRuntime) -> Result<(), Fail> {
     ];
     let words = words_of(rt.alloc(), &["word"])?;
     for (input, status, text) in rows {
-        let mut src = MemSource::new(input.to_vec(rt.alloc())?, 16, Vec::new(rt.alloc()));
-        let mut out = MemSink::new(rt.alloc(), 1000, 7, Vec::new(rt.alloc()))?;
-        assert_eq!(rt; run(rt.alloc(), &words, &mut src, &mut out), status);
-        assert_eq!(rt; out.bytes(), text);
+        assert_answer(&rt, &words, input, status, text)?;
     }
     Ok(())
 }
 
-// The third call for bytes fails, and then the first one that writes.
 #[test]
 fn word_lays_faults_to_the_outside(rt: HostRuntime) -> Result<(), Fail> {
     let words = words_of(rt.alloc(), &["word"])?;
-    let line = b"123123\n".to_vec(rt.alloc())?;
-    let mut src = MemSource::new(line, 3, [3].to_vec(rt.alloc())?);
-    let mut out = MemSink::new(rt.alloc(), 1000, 7, Vec::new(rt.alloc()))?;
-    assert_eq!(rt;
-        run(rt.alloc(), &words, &mut src, &mut out),
-        Status::ReadFault
-    );
-    assert_eq!(rt; src.faults(), 1);
-    assert_eq!(rt; out.bytes().len(), 0);
-
-    let line = b"123123\n".to_vec(rt.alloc())?;
-    let mut src = MemSource::new(line, 16, Vec::new(rt.alloc()));
-    let mut out = MemSink::new(rt.alloc(), 1000, 7, [1].to_vec(rt.alloc())?)?;
-    assert_eq!(rt;
-        run(rt.alloc(), &words, &mut src, &mut out),
-        Status::WriteFault
-    );
-    assert_eq!(rt; out.faults(), 1);
-    assert_eq!(rt; out.bytes().len(), 0);
+    assert_faults(&rt, &words, b"123123\n", 3)?;
     Ok(())
 }
 
@@ -116,11 +85,11 @@ fn other_words_are_a_wrong_use(rt: HostRuntime) -> Result<(), Fail> {
     ];
     for words in rows {
         let words = words_of(rt.alloc(), words)?;
-        let line = b"123123\n".to_vec(rt.alloc())?;
-        let mut src = MemSource::new(line, 16, [1].to_vec(rt.alloc())?);
-        let mut out = MemSink::new(rt.alloc(), 1000, 7, [1].to_vec(rt.alloc())?)?;
+        let mut src = source(rt.alloc(), b"123123\n", 16, &[1])?;
+        let mut out = sink(rt.alloc(), &[1])?;
         assert_eq!(rt; run(rt.alloc(), &words, &mut src, &mut out), Status::Usage);
-        assert_eq!(rt; src.faults() + out.faults(), 0);
+        assert_eq!(rt; src.faults(), 0);
+        assert_eq!(rt; out.faults(), 0);
     }
     Ok(())
 }
@@ -128,32 +97,28 @@ fn other_words_are_a_wrong_use(rt: HostRuntime) -> Result<(), Fail> {
 // What `mcb at` writes of a word and a triangle. It reads nothing.
 #[test]
 fn at_answers_its_arguments(rt: HostRuntime) -> Result<(), Fail> {
-    let rows: [(&[&str], Status, &[u8]); 7] = [
-        (&["at", "123123", "1", "1", "3"], Status::Done, b"open\n"),
+    let rows: [(&[&str], Status, &str); 7] = [
+        (&["at", "123123", "1", "1", "3"], Status::Done, "open\n"),
         (
             &["at", "123123", "2", "1", "4"],
             Status::NotShown,
-            b"not shown\n",
+            "not shown\n",
         ),
         (
             &["at", "123123", "3", "1", "5"],
             Status::NotShown,
-            b"not shown\n",
+            "not shown\n",
         ),
-        (
-            &["at", "1212312123", "2", "2", "5"],
-            Status::Done,
-            b"open\n",
-        ),
+        (&["at", "1212312123", "2", "2", "5"], Status::Done, "open\n"),
         (
             &["at", "121323", "1", "1", "3"],
             Status::Malformed,
-            b"refused argument reason=8\n",
+            "refused argument reason=8\n",
         ),
         (
             &["at", "123121", "1", "1", "3"],
             Status::Malformed,
-            b"refused argument reason=7\n",
+            "refused argument reason=7\n",
         ),
         (
             &[
@@ -164,15 +129,15 @@ fn at_answers_its_arguments(rt: HostRuntime) -> Result<(), Fail> {
                 "3",
             ],
             Status::Malformed,
-            b"refused argument reason=7\n",
+            "refused argument reason=7\n",
         ),
     ];
     for (words, status, text) in rows {
         let words = words_of(rt.alloc(), words)?;
-        let mut src = MemSource::new(Vec::new(rt.alloc()), 16, [1].to_vec(rt.alloc())?);
-        let mut out = MemSink::new(rt.alloc(), 1000, 7, Vec::new(rt.alloc()))?;
+        let mut src = source(rt.alloc(), b"", 16, &[1])?;
+        let mut out = sink(rt.alloc(), &[])?;
         assert_eq!(rt; run(rt.alloc(), &words, &mut src, &mut out), status);
-        assert_eq!(rt; out.bytes(), text);
+        assert_eq!(rt; out.bytes(), text.as_bytes());
         assert_eq!(rt; src.faults(), 0);
     }
     Ok(())

@@ -1,32 +1,26 @@
--- Margins: a slack above 0 gives a corridor, and what the ends of a narrow interval say of two slacks.
-use Rattle.std.proofs.Common.{◌≡◌, refl, sym, ap, ◌∙◌, subst, subst₂, ℕ, ◌+◌, ◌-◌, ◌*◌, ◌^◌, ◌≤◌, ℤ, pos, ◌+ℤ◌, ◌*ℤ◌, ◌≤ℤ◌, Bool, true, false, T, FitsSigned, to_z, of_z, List, [], ◌∷◌, arith, mul-le-mul, mul-le-mul_right}
+-- Margins: a slack above 0 gives a corridor at a point, and a margin in units.
+use Rattle.std.proofs.Common.{◌≡◌, refl, sym, ap, ◌∙◌, subst₂, ℕ, ◌+◌, ◌-◌, ◌*◌, ◌^◌, ◌≤◌, ℤ, pos, ◌+ℤ◌, ◌*ℤ◌, FitsSigned, to_z, of_z, [], ◌∷◌, arith, mul-le-mul}
 use Rattle.std.proofs.Math.Pow.{pow_mono}
-use Rattle.std.proofs.lemmas.Int.{ints, to_z-of_z, fits_signed_from_abs}
+use Rattle.std.proofs.lemmas.Int.{to_z-of_z, fits_signed_from_abs}
 use Rattle.std.specs.Int.{w64, w128}
-use Rattle.std.specs.Int.Signed.{le_z_yes}
-use Rattle.std.specs.Prelude.{int_le as is_at_most, IsTrue}
 use Rattle.std.proofs.lemmas.Nat.{pow-add, pow_pos}
 use Rattle.ring_solver.specs.Expression.{num, ◌⊠◌}
 use Rattle.ring_solver.specs.Ordered.{times}
 use Rattle.ring_solver.proofs.Solver.{ring₂, ring₄}
-use Rattle.ring_solver.proofs.Certificate.{le₂, le₃}
-use Rattle.rat_core.specs.Fraction.{ℚ, ◌÷◌, whole, ◌*ℚ◌, ◌≤ℚ◌, ◌<ℚ◌}
-use Rattle.rat_core.proofs.Laws.{ℚ_ring, ℚ_ordered, le_trans, lt_le, int-mul, over-mul}
-use Rattle.rat_core.proofs.Order.{lt_le_trans, int_le, int_le_back, whole_le, whole_nonneg, over_positive, cancel_le}
-use Rattle.exp_sums.specs.FormalPoint.{FormalPoint, terms}
-use Rattle.exp_sums.specs.declared.terms.Term.{Term}
-use Rattle.exp_sums.specs.Limits.{weight, terms_weight}
-use Rattle.trig_meaning.specs.Value.{IsPositiveAt, value_at}
-use Rattle.trig_meaning.specs.FromSomeOn.{FromSomeOn}
-use Rattle.trig_meaning.proofs.FromSomeOnLaws.{onward, onward_both, somewhere}
-use Rattle.directed_fixed.specs.Ends.{Ends, Encloses}
+use Rattle.ring_solver.proofs.Certificate.{le₂}
+use Rattle.rat_core.specs.Fraction.{ℚ, whole, ◌*ℚ◌, ◌<ℚ◌}
+use Rattle.rat_core.proofs.Laws.{ℚ_ring, ℚ_ordered, lt_le, int-mul, over-mul}
+use Rattle.rat_core.proofs.Order.{lt_le_trans, whole_le, over_positive}
+use Rattle.exp_sums.specs.FormalPoint.{FormalPoint}
+use Rattle.exp_sums.specs.Limits.{weight}
+use Rattle.trig_meaning.specs.Value.{IsPositiveAt}
 use Rattle.defining_functions.specs.Functions.{defining_function}
-use Rattle.gradient_bounds.specs.Angles.{value_of_terms}
-use Rattle.gradient_bounds.specs.Clear.{slack, margin, IsClearFunction, ClearGivesCorridor}
+use Rattle.gradient_bounds.specs.Clear.{slack, margin, IsClearFunction}
+use Rattle.gradient_bounds.specs.Laws.{ClearAtPointGivesCorridor}
 
 -- ---- a corridor
 
-margin_positive : (e : ℚ) (f : FormalPoint) → whole 0 <ℚ e → whole 0 <ℚ margin e f
+pub margin_positive : (e : ℚ) (f : FormalPoint) → whole 0 <ℚ e → whole 0 <ℚ margin e f
 margin_positive e f h =
     let u = whole (1 + weight f) in
     lt_le_trans (whole 0) e (e *ℚ u) h
@@ -35,8 +29,8 @@ margin_positive e f h =
 clear_is_positive : (f : FormalPoint) (x y e : ℚ) → whole 0 <ℚ e → IsClearFunction x y e f → IsPositiveAt f x y
 clear_is_positive f x y e h k = (margin e f, margin_positive e f h, k)
 
-pub clear_gives_corridor_lem : ClearGivesCorridor
-clear_gives_corridor_lem w x y e h k =
+pub clear_at_point_gives_corridor_lem : ClearAtPointGivesCorridor
+clear_at_point_gives_corridor_lem w x y e h k =
     record {
       stable = k.stable;
       shift = k.shift;
@@ -50,7 +44,7 @@ slack_positive bits = over_positive 1 (2 ^ bits) (omega arith) (pow_pos bits)
 -- ---- margins in units
 
 -- a slack in units of 2^-bits
-slack_units : (bits low : ℕ) (u : ℚ) → low ≤ bits → slack low *ℚ u *ℚ whole (2 ^ bits) ≡ whole (2 ^ (bits - low)) *ℚ u
+pub slack_units : (bits low : ℕ) (u : ℚ) → low ≤ bits → slack low *ℚ u *ℚ whole (2 ^ bits) ≡ whole (2 ^ (bits - low)) *ℚ u
 slack_units bits low u h =
     let s = slack low in
     let U = whole (2 ^ (bits - low)) in
@@ -61,71 +55,6 @@ slack_units bits low u h =
     ∙ ring₄ ℚ_ring (λ s u U L. s ⊠ u ⊠ (U ⊠ L)) (λ s u U L. (s ⊠ L) ⊠ (U ⊠ u)) refl s u U L
     ∙ ap (λ t. t *ℚ (U *ℚ u)) (over-mul (pos 1) (2 ^ low) (pow_pos low))
     ∙ ring₂ ℚ_ring (λ U u. num 1 ⊠ (U ⊠ u)) (λ U u. U ⊠ u) refl U u
-
--- a lower end that reaches the margin of the narrower slack
-pub lower_end_reaches : (bits low w : ℕ) (r : Ends) (v : ℚ) → low ≤ bits → (pos (2 ^ (bits - low)) *ℤ pos (1 + w)) ≤ℤ r.lo → Encloses bits r v → slack low *ℚ whole (1 + w) ≤ℚ v
-lower_end_reaches bits low w r v h k e =
-    let u = whole (1 + w) in
-    let P = whole (2 ^ bits) in
-    let units = pos (2 ^ (bits - low)) *ℤ pos (1 + w) in
-    cancel_le (2 ^ bits) (pow_pos bits) (slack low *ℚ u) v
-    (subst (λ t. t ≤ℚ v *ℚ P) (int-mul (pos (2 ^ (bits - low))) (pos (1 + w)) ∙ sym (slack_units bits low u h))
-    (le_trans (units ÷ 1) (r.lo ÷ 1) (v *ℚ P) (int_le units r.lo k) e.low))
-
--- 4,096 units of the narrower slack exceed one of it and the width
-wide_slack_exceeds : (bits low high w : ℕ) → high + 12 ≤ low → low ≤ bits → 2 ^ (bits - low) * (1 + w) + 256 * w ≤ 2 ^ (bits - high) * (1 + w)
-wide_slack_exceeds bits low high w h k =
-    let more : 2 ^ (bits - low + 12) ≤ 2 ^ (bits - high) = pow_mono (omega arith) in
-    let split : 2 ^ (bits - low + 12) ≡ 2 ^ (bits - low) * 2 ^ 12 = pow-add 2 (bits - low) 12 in
-    let unit : 1 ≤ 2 ^ (bits - low) = pow_pos (bits - low) in
-    let wide : 2 ^ (bits - low) * 4096 * (1 + w) ≤ 2 ^ (bits - high) * (1 + w) = mul-le-mul_right (1 + w) (omega arith) in
-    let one : 1 * (1 + w) ≤ 2 ^ (bits - low) * (1 + w) = mul-le-mul_right (1 + w) unit in
-    omega arith
-
--- a value that reaches the margin of the wider slack has such a lower end, if the interval is narrow
-pub wide_slack_is_seen : (bits low high w : ℕ) (r : Ends) (v : ℚ) → high + 12 ≤ low → low ≤ bits → r.hi ≤ℤ (r.lo +ℤ pos (256 * w)) → Encloses bits r v → slack high *ℚ whole (1 + w) ≤ℚ v → (pos (2 ^ (bits - low)) *ℤ pos (1 + w)) ≤ℤ r.lo
-wide_slack_is_seen bits low high w r v h k narrow e reaches =
-    let u = whole (1 + w) in
-    let P = whole (2 ^ bits) in
-    let units = pos (2 ^ (bits - high)) *ℤ pos (1 + w) in
-    let scaled : slack high *ℚ u *ℚ P ≤ℚ v *ℚ P =
-    le₃ ℚ_ordered (λ s v p. s ⊠ p) (λ s v p. v ⊠ p) (λ s v p. times p s v ∷ []) refl (slack high *ℚ u) v P (whole_nonneg (2 ^ bits), reaches, tt)
-    in
-    let upper : units ≤ℤ r.hi =
-    int_le_back units r.hi
-    (le_trans (units ÷ 1) (v *ℚ P) (r.hi ÷ 1)
-    (subst (λ t. t ≤ℚ v *ℚ P) (slack_units bits high u (omega arith) ∙ sym (int-mul (pos (2 ^ (bits - high))) (pos (1 + w)))) scaled) e.high)
-    in
-    let gap : 2 ^ (bits - low) * (1 + w) + 256 * w ≤ 2 ^ (bits - high) * (1 + w) = wide_slack_exceeds bits low high w h k in
-    rest (2 ^ (bits - low) * (1 + w)) (256 * w) (2 ^ (bits - high) * (1 + w)) r.lo r.hi gap upper narrow
-  where
-    rest : (a b c : ℕ) (lo hi : ℤ) → a + b ≤ c → pos c ≤ℤ hi → hi ≤ℤ (lo +ℤ pos b) → pos a ≤ℤ lo
-    rest a b c lo hi p q s = omega (arith, ints)
-
--- ---- the test
-
-is_true : (b : Bool) → T b → IsTrue b
-is_true true t = refl
-is_true false t = absurd t
-
--- a function passes only where it is clear with the narrower slack ..
-pub passes_clear : (bits low : ℕ) (f : FormalPoint) (x y : ℚ) (m lo : ℤ) (r : Ends) (ts : List Term) → low ≤ bits → ts ≡ terms f → m ≡ pos (2 ^ (bits - low) * (1 + weight f)) → lo ≡ r.lo → FromSomeOn (λ n. Encloses bits r (value_of_terms n ts x y))
-    → IsTrue (is_at_most m lo) → IsClearFunction x y (slack low) f
-passes_clear bits low f x y m lo r ts room ts_is m_is lo_is encloses passed =
-    let reach : pos (2 ^ (bits - low) * (1 + weight f)) ≤ℤ r.lo = subst₂ ◌≤ℤ◌ m_is lo_is (le_z_yes (subst T (sym passed) tt)) in
-    onward (λ n e. lower_end_reaches bits low (weight f) r (value_at n f x y) room reach (subst (λ us. Encloses bits r (value_of_terms n us x y)) ts_is e)) encloses
-
--- .. and where it is clear with the wider one
-pub clear_passes : (bits low high : ℕ) (f : FormalPoint) (x y : ℚ) (m lo : ℤ) (r : Ends) (ts : List Term) → high + 12 ≤ low → low ≤ bits → ts ≡ terms f → m ≡ pos (2 ^ (bits - low) * (1 + weight f)) → lo ≡ r.lo → FromSomeOn (λ n. Encloses bits r (value_of_terms n ts x y))
-    → r.hi ≤ℤ (r.lo +ℤ pos (256 * terms_weight ts)) → IsClearFunction x y (slack high) f → IsTrue (is_at_most m lo)
-clear_passes bits low high f x y m lo r ts apart room ts_is m_is lo_is encloses narrow clear =
-    let both_from : FromSomeOn (λ n. Encloses bits r (value_of_terms n ts x y) × (margin (slack high) f ≤ℚ value_at n f x y)) = onward_both (λ n e c. (e, c)) encloses clear in
-    let both = somewhere both_from in
-    let n = both.0 in
-    let e : Encloses bits r (value_at n f x y) = subst (λ us. Encloses bits r (value_of_terms n us x y)) ts_is both.1.0 in
-    let width : r.hi ≤ℤ (r.lo +ℤ pos (256 * weight f)) = subst (λ us. r.hi ≤ℤ (r.lo +ℤ pos (256 * terms_weight us))) ts_is narrow in
-    let reach = wide_slack_is_seen bits low high (weight f) r (value_at n f x y) apart room width e both.1.1 in
-    is_true (is_at_most m lo) (subst₂ ◌≤ℤ◌ (sym m_is) (sym lo_is) reach).le
 
 -- the margin in units, as it is computed from a slack u and a weight z
 pub record IsMargin (bits low w : ℕ) (u z : ℤ) : Type 0 where

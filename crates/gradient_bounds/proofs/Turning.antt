@@ -1,6 +1,9 @@
 -- Angles over one denominator, and turns of directions over it.
-use Rattle.std.proofs.Common.{◌≡◌, refl, sym, ap, ap₂, ◌∙◌, subst, subst₂, ℕ, ◌*◌, ◌^◌, ◌<◌, ◌≤◌, ℤ, pos, negsuc, ◌+ℤ◌, ◌*ℤ◌, ◌≤ℤ◌, ◌<ℤ◌, unsigned_abs, FitsSigned, to_z, of_z, lit<, arith, mul-pos, mul-le-mul}
+use Rattle.std.proofs.Common.{◌≡◌, refl, sym, ap, ap₂, ◌∙◌, subst, subst₂, ℕ, ◌+◌, ◌*◌, ◌^◌, ◌<◌, ◌≤◌, ℤ, pos, negsuc, ◌+ℤ◌, ◌*ℤ◌, ◌≤ℤ◌, ◌<ℤ◌, unsigned_abs, FitsSigned, to_z, of_z, lit<, arith, mul-pos, mul-le-mul}
 use Rattle.std.specs.Int.{w32, w128}
+use Rattle.std.proofs.Math.Pow.{pow_mono}
+use Rattle.std.proofs.lemmas.Nat.{pow_pos}
+use Rattle.std.proofs.lemmas.Grind.{pow_more}
 use Rattle.std.proofs.lemmas.Int.{ints, to_z-of_z, fits_signed_from_abs}
 use Rattle.ring_solver.specs.Expression.{◌⊞◌, ◌⊠◌}
 use Rattle.ring_solver.proofs.Solver.{ring₅}
@@ -49,13 +52,16 @@ common_angles X Y d e p q d_small e_small first second third =
     let below : ((X *ℤ pos e +ℤ Y *ℤ pos d) *ℤ pos 1) <ℤ (pos 1 *ℤ pos (d * e)) =
     over_lt_back (X *ℤ pos e +ℤ Y *ℤ pos d) (pos 1) (d * e) 1 positive (lit< tt) (subst (λ t. t <ℚ whole 1) (over-add X Y d e p q) third)
     in
+    let first_product = product_nonneg X e (numerator_positive X d p first) in
+    let second_product = product_nonneg Y d (numerator_positive Y e q second) in
     record {
       angles = record {
         positive = at_least_one (d * e) positive;
         small = at_most (d * e) (2 ^ 40) (omega arith);
-        first = product_nonneg X e (numerator_positive X d p first);
-        second = product_nonneg Y d (numerator_positive Y e q second);
-        within = below_at_most (X *ℤ pos e +ℤ Y *ℤ pos d) (d * e) below;
+        first = first_product;
+        second = second_product;
+        first_within = first_at_most (X *ℤ pos e) (Y *ℤ pos d) (d * e) second_product below;
+        second_within = second_at_most (X *ℤ pos e) (Y *ℤ pos d) (d * e) first_product below;
       };
       first = over_common X d e p q;
       second = ap (λ t. (Y *ℤ pos d) ÷ t) (mul_comm d e) ∙ over_common Y e d q p;
@@ -67,8 +73,11 @@ common_angles X Y d e p q d_small e_small first second third =
     at_most : (n m : ℕ) → n ≤ m → pos n ≤ℤ pos m
     at_most n m h = omega (arith, ints)
 
-    below_at_most : (z : ℤ) (n : ℕ) → (z *ℤ pos 1) <ℤ (pos 1 *ℤ pos n) → z ≤ℤ pos n
-    below_at_most z n h = omega (arith, ints)
+    first_at_most : (y z : ℤ) (n : ℕ) → pos 0 ≤ℤ z → ((y +ℤ z) *ℤ pos 1) <ℤ (pos 1 *ℤ pos n) → y ≤ℤ pos n
+    first_at_most y z n k h = omega (arith, ints)
+
+    second_at_most : (y z : ℤ) (n : ℕ) → pos 0 ≤ℤ y → ((y +ℤ z) *ℤ pos 1) <ℤ (pos 1 *ℤ pos n) → z ≤ℤ pos n
+    second_at_most y z n k h = omega (arith, ints)
 
     mul_comm : (m n : ℕ) → m * n ≡ n * m
     mul_comm m n = omega arith
@@ -135,7 +144,8 @@ angle_size a h =
     let small = h.small in
     let first = h.first in
     let second = h.second in
-    let within = h.within in
+    let first_within = h.first_within in
+    let second_within = h.second_within in
     (omega (arith, ints), omega (arith, ints), omega (arith, ints))
 
 sum_size : (p q : ℤ) → unsigned_abs p ≤ 2 ^ 51 → unsigned_abs q ≤ 2 ^ 51 → unsigned_abs (p +ℤ q) ≤ 2 ^ 52
@@ -155,6 +165,9 @@ fits_128 z h = fits_signed_from_abs w128 z (omega arith)
 
 fits_32 : (z : ℤ) → unsigned_abs z ≤ 130 → FitsSigned w32 z
 fits_32 z h = fits_signed_from_abs w32 z (omega arith)
+
+pub angles_fit : (a : Angles) → IsAngles a → FitsSigned w128 a.den
+angles_fit a h = fits_128 a.den (omega (arith, (angle_size a h).2))
 
 -- the numerator as the machine computes it
 abbrev pub kept_numerator : ℤ → ℤ → Angles → ℤ
@@ -194,5 +207,36 @@ numerator_computed dir a p q near angles p_is q_is =
 pub turn_computed : (dir : Dir) (a : Angles) (z : ℤ) → IsAngles a → unsigned_abs z ≤ 2 ^ 52 → z ÷ unsigned_abs a.den ≡ turn_of dir (first_angle a) (second_angle a) → kept z ÷ unsigned_abs (kept a.den) ≡ turn_of dir (first_angle a) (second_angle a)
 turn_computed dir a z angles small is =
     let z_fits : FitsSigned w128 z = fits_128 z (omega arith) in
-    let den_fits : FitsSigned w128 a.den = fits_128 a.den (omega (arith, (angle_size a angles).2)) in
+    let den_fits = angles_fit a angles in
     simp to_z-of_z is
+
+-- ---- boxes
+
+-- the centre of a box, over a power of 2
+pub box_angles : (i j level : ℕ) → level ≤ 20 → i < 2 ^ level → j < 2 ^ level → IsAngles (record { first = pos (2 * i + 1); second = pos (2 * j + 1); den = pos (2 ^ (level + 1)) })
+box_angles i j level deep column row =
+    let shallow : level + 1 ≤ 40 = omega arith in
+    let small : 2 ^ (level + 1) ≤ 2 ^ 40 = pow_mono shallow in
+    let double : 2 ^ (level + 1) ≡ 2 ^ level * 2 = pow_more 2 level in
+    let positive : 0 < 2 ^ (level + 1) = pow_pos (level + 1) in
+    record {
+      positive = ordered 1 (2 ^ (level + 1)) (omega arith);
+      small = ordered (2 ^ (level + 1)) (2 ^ 40) small;
+      first = ordered 0 (2 * i + 1) (omega arith);
+      second = ordered 0 (2 * j + 1) (omega arith);
+      first_within = ordered (2 * i + 1) (2 ^ (level + 1)) (omega arith);
+      second_within = ordered (2 * j + 1) (2 ^ (level + 1)) (omega arith);
+    }
+  where
+    ordered : (m n : ℕ) → m ≤ n → pos m ≤ℤ pos n
+    ordered m n h = omega (arith, ints)
+
+-- the same for numbers that are those, as the machine keeps them
+pub box_angles_kept : (i j level : ℕ) (x y d : ℤ) → level ≤ 20 → i < 2 ^ level → j < 2 ^ level → x ≡ pos (2 * i + 1) → y ≡ pos (2 * j + 1) → d ≡ pos (2 ^ (level + 1)) → IsAngles (record { first = kept x; second = kept y; den = kept d })
+box_angles_kept i j level x y d deep column row x_is y_is d_is =
+    let angles = box_angles i j level deep column row in
+    let sizes = angle_size (record { first = pos (2 * i + 1); second = pos (2 * j + 1); den = pos (2 ^ (level + 1)) }) angles in
+    let x_fits : FitsSigned w128 x = subst (FitsSigned w128) (sym x_is) (fits_128 (pos (2 * i + 1)) (omega (arith, sizes.0))) in
+    let y_fits : FitsSigned w128 y = subst (FitsSigned w128) (sym y_is) (fits_128 (pos (2 * j + 1)) (omega (arith, sizes.1))) in
+    let d_fits : FitsSigned w128 d = subst (FitsSigned w128) (sym d_is) (fits_128 (pos (2 ^ (level + 1))) (omega (arith, sizes.2))) in
+    simp to_z-of_z (subst IsAngles (sym (λ k. record { first = x_is k; second = y_is k; den = d_is k })) angles)

@@ -1,6 +1,6 @@
 -- The angles of a triangle over one denominator, and what sines of their multiples add up to.
 
-use Rattle.std.specs.Prelude.{ℕ, ◌^◌, List, pos, ◌+ℤ◌, ◌≤ℤ◌, unsigned_abs}
+use Rattle.std.specs.Prelude.{ℕ, ◌^◌, List, pos, ◌≤ℤ◌, unsigned_abs}
 use Rattle.rat_core.specs.Fraction.{ℚ, ◌÷◌}
 use Rattle.rat_core.proofs.Laws.{ℚ_ring, ℚ_image}
 use Rattle.exp_sums.specs.declared.terms.Term.{Term}
@@ -9,13 +9,14 @@ use Rattle.trig_meaning.specs.Turn.{sine_of_turn}
 use Rattle.trig_meaning.specs.Value.{turn_of}
 use Rattle.gradient_bounds.specs.declared.angles.Angles.{Angles}
 
--- numerators from 0 to the denominator, together too, and a denominator from 1 to 2^40
+-- numerators from 0 to the denominator, and a denominator from 1 to 2^40
 pub record IsAngles (a : Angles) : Type 0 where
   pub positive : pos 1 ≤ℤ a.den
   pub small : a.den ≤ℤ pos (2 ^ 40)
   pub first : pos 0 ≤ℤ a.first
   pub second : pos 0 ≤ℤ a.second
-  pub within : (a.first +ℤ a.second) ≤ℤ a.den
+  pub first_within : a.first ≤ℤ a.den
+  pub second_within : a.second ≤ℤ a.den
 
 -- the angles at corners 1 and 2, in half turns
 abbrev pub first_angle : Angles → ℚ

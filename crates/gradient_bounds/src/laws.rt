@@ -1,7 +1,22 @@
-//! What holds of the definitions. The program calls no law.
-ghost use Rattle.gradient_bounds.specs.Clear.{ClearGivesCorridor};
+//! What follows from the definitions alone: each function's contract is a law. The program calls none.
+ghost use Rattle.gradient_bounds.specs.Laws.{ClearAtPointGivesCorridor, ClearGivesCorridor, ShutGivesNoCorridor, ClearWithLess};
 
 /// A word that is clear at a triangle, with some slack above 0, has a corridor there.
+pub fn clear_at_point_gives_corridor()
+    ensures { ClearAtPointGivesCorridor }
+{}
+
+/// A word that is clear on a box, with some slack above 0, has a corridor at every point of the box.
 pub fn clear_gives_corridor()
     ensures { ClearGivesCorridor }
+{}
+
+/// A word that is shut on a box, with some slack above 0, has a corridor at no point of the box.
+pub fn shut_gives_no_corridor()
+    ensures { ShutGivesNoCorridor }
+{}
+
+/// What is clear with a slack is clear with each lesser one.
+pub fn clear_with_less()
+    ensures { ClearWithLess }
 {}

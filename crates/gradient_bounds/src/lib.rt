@@ -1,15 +1,21 @@
-//! Tests of whether a triangle has a corridor of a stable word, by sums of sines that are known within bounds.
+//! Tests of whether a stable word has a corridor in a triangle, in every triangle of a box, or in none of a box, by sums
+//! of sines that are known within bounds.
 //!
-//! The one contract: a test is true only where the word's corridor is open with the narrower slack of the scale, and
-//! is true wherever it is open with the wider one.
+//! The one contract: a test is true only where the word is clear, or shut, with the narrower slack of the scale, and true
+//! wherever it is with the wider one.
 #![tactic(auto)]
 
 mod angles;
+mod clear;
 mod fault;
 mod functions;
 pub mod laws;
 mod prepared;
+mod region;
 mod sines;
+#[cfg(test)]
+mod tests;
+mod thresholds;
 
 pub use fault::PrepareFault;
 pub use prepared::Prepared;

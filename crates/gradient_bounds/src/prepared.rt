@@ -3,19 +3,23 @@ ghost use Rattle.std.specs.Prelude.{◌≡◌, ◌↔◌, ◌^◌, ◌≤◌, Is
 ghost use Rattle.rat_core.specs.Fraction.{whole, ◌+ℚ◌, ◌<ℚ◌};
 ghost use Rattle.rat_core.specs.Written.{value};
 ghost use Rattle.edge_words.specs.Stable.{IsStable};
-ghost use Rattle.gradient_bounds.specs.Corridor.{HasCorridor};
-ghost use Rattle.gradient_bounds.specs.Clear.{slack, IsClearAtPoint};
+ghost use Rattle.rational_polygon.specs.Point.{Point};
+ghost use Rattle.rational_polygon.specs.Square.{IsInBox};
+ghost use Rattle.gradient_bounds.specs.Corridor.{EachFunction, HasCorridor};
+ghost use Rattle.gradient_bounds.specs.Clear.{slack, IsClearAtPoint, IsClear, IsShut};
+ghost use Rattle.gradient_bounds.specs.Region.{IsRegion, ball_of, IsClearIn};
 ghost use Rattle.gradient_bounds.specs.declared.fault.PrepareFault.TheVariants.{Unstable};
 
-use crate::angles::over_one_denominator;
+use crate::clear::{are_clear, has_shut};
 use crate::fault::PrepareFault;
 use crate::functions::rows;
-use crate::sines::are_clear;
+use crate::region::{Region, point, square};
 use defining_functions::Functions;
 use directed_fixed::Scale;
 use edge_words::Word;
 use exp_sums::ExpSum;
 use rat_core::Frac;
+use rational_polygon::GridBox;
 use std::alloc::Global;
 use std::marker::{Model, PhantomData};
 use unfolding::Unfolding;
@@ -84,9 +88,50 @@ impl<S: Scale> Prepared<S> {
         ensures found { IsClearAtPoint self.old (value x) (value y) (slack S.HIGH_BITS) → IsTrue result }
         ensures corridor { IsTrue result → HasCorridor self.old (value x) (value y) }
     {
-        let at = over_one_denominator(x, y);
+        self.is_clear_in(&point(x, y))
+    }
+
+    /// Whether the word is seen to have a corridor at every point of the box, by the functions at its centre alone.
+    ///
+    /// A sine of pi times t changes by at most pi times the change of t, so from the centre to another point of the box
+    /// a function changes by at most its drift: pi times its reach times half the side. The answer is true only where
+    /// each function exceeds its drift by its margin with the narrower slack of the scale, and true wherever each does
+    /// with the wider one. Source: the gradient bounds of Richard Evan Schwartz, Obtuse Triangular Billiards I: Near the
+    /// (2, 3, 6) Triangle, Experimental Mathematics 15 (2006).
+    pub fn test_box(&mut self, place: GridBox) -> bool
+        ensures word { self.new ≡ self.old }
+        ensures clear { IsTrue result → IsClear self.old place (slack S.LOW_BITS) }
+        ensures found { IsClear self.old place (slack S.HIGH_BITS) → IsTrue result }
+        ensures corridor { IsTrue result → (p : Point) → IsInBox place p → HasCorridor self.old p.x p.y }
+    {
+        self.is_clear_in(&square(place))
+    }
+
+    /// Whether the word is seen to have a corridor at no point of the box: one function is as far below 0 at the centre
+    /// as `test_box` wants each above 0. The slacks are those of `test_box`, and so is the source.
+    pub fn shut_box(&mut self, place: GridBox) -> bool
+        ensures word { self.new ≡ self.old }
+        ensures shut { IsTrue result → IsShut self.old place (slack S.LOW_BITS) }
+        ensures found { IsShut self.old place (slack S.HIGH_BITS) → IsTrue result }
+        ensures no_corridor { IsTrue result → (p : Point) → IsInBox place p → ¬ (HasCorridor self.old p.x p.y) }
+    {
+        let region = square(place);
         for row in &self.rows {
-            if !are_clear::<S>(row.as_slice(), &at) {
+            if has_shut::<S>(row.as_slice(), &region) {
+                return true;
+            }
+        }
+        false
+    }
+
+    /// Whether each function is seen to be clear in the region.
+    fn is_clear_in(&self, region: &Region) -> bool
+        requires { IsRegion region.now }
+        ensures clear { IsTrue result → EachFunction self.now (IsClearIn (ball_of region.now) (slack S.LOW_BITS)) }
+        ensures found { EachFunction self.now (IsClearIn (ball_of region.now) (slack S.HIGH_BITS)) → IsTrue result }
+    {
+        for row in &self.rows {
+            if !are_clear::<S>(row.as_slice(), region) {
                 return false;
             }
         }

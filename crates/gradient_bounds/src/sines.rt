@@ -1,19 +1,17 @@
-//! Sums of sines at a triangle, and whether they are clearly above 0.
-ghost use Rattle.std.specs.Prelude.{◌≡◌, ℕ, ◌+◌, ◌-◌, ◌*◌, ◌^◌, ◌≤◌, pos, ◌+ℤ◌, ◌≤ℤ◌, unsigned_abs, IsTrue};
+//! Sums of sines at a point of the angle plane.
+ghost use Rattle.std.specs.Prelude.{◌*◌, ◌^◌, ◌≤◌, pos, ◌+ℤ◌, ◌≤ℤ◌, unsigned_abs};
 ghost use Rattle.std.specs.List.{All};
 ghost use Rattle.rat_core.specs.Fraction.{◌÷◌, ◌*ℚ◌};
-ghost use Rattle.exp_sums.specs.Limits.{IsNear, terms_weight, weight};
+ghost use Rattle.exp_sums.specs.Limits.{IsNear, terms_weight};
 ghost use Rattle.trig_meaning.specs.Turn.{sine_of_turn};
 ghost use Rattle.trig_meaning.specs.Value.{turn_of};
 ghost use Rattle.trig_meaning.specs.FromSomeOn.{FromSomeOn};
 ghost use Rattle.directed_fixed.specs.Ends.{Encloses, IsWithin};
-ghost use Rattle.defining_functions.specs.Functions.{IsWithinFunctionLimits};
 ghost use Rattle.gradient_bounds.specs.Angles.{IsAngles, first_angle, second_angle, value_of_terms};
-ghost use Rattle.gradient_bounds.specs.Clear.{slack, IsClearFunction};
 
 use crate::angles::{Angles, turn_numerator};
 use directed_fixed::{Interval, Scale};
-use exp_sums::{ExpSum, Term};
+use exp_sums::Term;
 use sine_fixed::{sine, turn};
 
 /// One term: its coefficient times the sine of its direction. The answer is at most 256 units wide for each unit of the
@@ -30,7 +28,7 @@ fn multiple_of_sine<S: Scale>(term: &Term, at: &Angles) -> Interval<S>
 }
 
 /// The sum of the terms, which is at most 256 units wide for each unit of weight.
-fn sum_of_sines<S: Scale>(terms: &[Term], at: &Angles) -> Interval<S>
+pub fn sum_of_sines<S: Scale>(terms: &[Term], at: &Angles) -> Interval<S>
     requires near { All (λ t. IsNear 130 t.dir) terms.now }
     requires light { terms_weight terms.now ≤ 16384 }
     requires angles { IsAngles at.now }
@@ -42,45 +40,4 @@ fn sum_of_sines<S: Scale>(terms: &[Term], at: &Angles) -> Interval<S>
         total = total.add(multiple_of_sine::<S>(term, at));
     }
     total
-}
-
-/// The margin of a function with the narrower slack, in units.
-fn margin<S: Scale>(function: &ExpSum) -> i128
-    requires { IsWithinFunctionLimits function.now }
-    ensures { result ≡ pos (2 ^ (S.BITS - S.LOW_BITS) * (1 + weight function.now)) }
-{
-    slack_units::<S>() * (1 + i128::from(function.weight()))
-}
-
-/// The narrower slack, in units.
-fn slack_units<S: Scale>() -> i128
-    ensures { result ≡ pos (2 ^ (S.BITS - S.LOW_BITS)) }
-{
-    1 << (S::BITS - S::LOW_BITS)
-}
-
-/// Whether the lower end of a function's value reaches its margin.
-fn is_clear<S: Scale>(function: &ExpSum, at: &Angles) -> bool
-    requires limits { IsWithinFunctionLimits function.now }
-    requires angles { IsAngles at.now }
-    ensures clear { IsTrue result → IsClearFunction (first_angle at.now) (second_angle at.now) (slack S.LOW_BITS) function.now }
-    ensures found { IsClearFunction (first_angle at.now) (second_angle at.now) (slack S.HIGH_BITS) function.now → IsTrue result }
-{
-    let value = sum_of_sines::<S>(function.terms(), at);
-    value.lo() >= margin::<S>(function)
-}
-
-/// Whether that is so for each function.
-pub fn are_clear<S: Scale>(functions: &[ExpSum], at: &Angles) -> bool
-    requires limits { All IsWithinFunctionLimits functions.now }
-    requires angles { IsAngles at.now }
-    ensures clear { IsTrue result → All (IsClearFunction (first_angle at.now) (second_angle at.now) (slack S.LOW_BITS)) functions.now }
-    ensures found { All (IsClearFunction (first_angle at.now) (second_angle at.now) (slack S.HIGH_BITS)) functions.now → IsTrue result }
-{
-    for function in functions {
-        if !is_clear::<S>(function, at) {
-            return false;
-        }
-    }
-    true
 }

@@ -4,8 +4,9 @@ use Rattle.std.proofs.Common.{◌^◌, pos}
 use Rattle.rat_core.specs.Fraction.{◌÷◌, whole, ◌+ℚ◌, ◌*ℚ◌, neg_ℚ, ◌≤ℚ◌, at_most}
 use Rattle.trig_meaning.specs.PartialSums.{pi_sum}
 use Rattle.trig_meaning.specs.FromSomeOn.{FromSomeOn}
+use Rattle.trig_meaning.proofs.PiSums.{lower, upper}
 use Rattle.directed_fixed.specs.Ends.{Encloses}
-use Rattle.directed_fixed.proofs.PiSums.{lower, upper, between}
+use Rattle.directed_fixed.proofs.PiSums.{between}
 
 fine_low : pos 0x3243F6A8885A308D ÷ 1 ≤ℚ lower *ℚ whole (2 ^ 60)
 unfolding lower at_most ◌+ℚ◌ ◌*ℚ◌ ◌÷◌ neg_ℚ

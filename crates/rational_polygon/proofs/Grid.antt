@@ -28,7 +28,7 @@ over_below_one : (n d : ℕ) → 0 < d → n < d → pos n ÷ d <ℚ whole 1
 over_below_one n d p h = over_lt (pos n) (pos 1) d 1 p (omega arith) (below_in (pos (n * 1)) (pos (1 * d)) (omega arith))
 
 -- a sum over one denominator
-over-add_same : (m n d : ℕ) → 0 < d → pos m ÷ d +ℚ pos n ÷ d ≡ pos (m + n) ÷ d
+pub over-add_same : (m n d : ℕ) → 0 < d → pos m ÷ d +ℚ pos n ÷ d ≡ pos (m + n) ÷ d
 over-add_same m n d p =
     over-add (pos m) (pos n) d d p p
     ∙ over_same (pos m *ℤ pos d +ℤ pos n *ℤ pos d) (pos (m + n)) (d * d) d (mul-pos p p) p

@@ -1,4 +1,5 @@
 pub mod Bounds
+pub mod Centres
 pub mod Grid
 pub mod Halves
 pub mod Numbers

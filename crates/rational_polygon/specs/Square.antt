@@ -32,6 +32,10 @@ dyadic n level = pos n ÷ (2 ^ level)
 abbrev pub box_corner : Square → ℕ → ℕ → Point
 box_corner box a b = record { x = dyadic (box.i + a) box.level; y = dyadic (box.j + b) box.level }
 
+-- half the side
+abbrev pub half_side : Square → ℚ
+half_side box = dyadic 1 (box.level + 1)
+
 abbrev pub centre : Square → Point
 centre box = record { x = dyadic (2 * box.i + 1) (box.level + 1); y = dyadic (2 * box.j + 1) (box.level + 1) }
 

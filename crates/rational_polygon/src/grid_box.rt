@@ -52,6 +52,7 @@ impl GridBox {
         ensures x { result.0 ≡ record { num = pos (2 * self.i + 1); den = 2 ^ (self.level + 1) } }
         ensures y { result.1 ≡ record { num = pos (2 * self.j + 1); den = 2 ^ (self.level + 1) } }
         ensures is_centre { record { x = value result.0; y = value result.1 } ≡ centre self }
+        ensures is_box { IsBox self }
     {
         let level = self.level + 1;
         (dyadic(2 * self.i + 1, level), dyadic(2 * self.j + 1, level))

@@ -1,5 +1,5 @@
 -- What the parts of the sine enclose.
-use Rattle.std.proofs.Common.{◌≡◌, refl, sym, subst, subst₂, ap, ◌∙◌, ℕ, ◌+◌, ◌*◌, ◌^◌, ◌<◌, ◌≤◌, true, false, ℤ, pos, negsuc, ◌+ℤ◌, ◌*ℤ◌, ◌≤ℤ◌, unsigned_abs, FitsSigned, [], ◌∷◌, arith}
+use Rattle.std.proofs.Common.{◌≡◌, refl, sym, subst, subst₂, ap, ◌∙◌, ℕ, ◌+◌, ◌*◌, ◌^◌, ◌<◌, ◌≤◌, true, false, ℤ, pos, negsuc, ◌+ℤ◌, ◌*ℤ◌, ◌≤ℤ◌, unsigned_abs, FitsSigned, [], ◌∷◌, arith, lit≤}
 use Rattle.std.proofs.Math.Pow.{pow_mono}
 use Rattle.std.proofs.lemmas.Int.{ints, fits_signed_from_abs}
 use Rattle.std.proofs.lemmas.Nat.{pow_pos}
@@ -9,15 +9,15 @@ use Rattle.ring_solver.specs.Ordered.{le, times, same}
 use Rattle.ring_solver.proofs.Solver.{ring₁, ring₂, ring₃}
 use Rattle.ring_solver.proofs.Certificate.{le₃, le₄}
 use Rattle.ring_solver.proofs.Whole.{ℤ_ordered}
-use Rattle.rat_core.specs.Fraction.{ℚ, ◌÷◌, whole, ◌+ℚ◌, ◌-ℚ◌, ◌*ℚ◌, neg_ℚ, at_most, ◌≤ℚ◌, abs}
+use Rattle.rat_core.specs.Fraction.{ℚ, ◌÷◌, whole, ◌+ℚ◌, ◌-ℚ◌, ◌*ℚ◌, neg_ℚ, ◌≤ℚ◌, abs}
 use Rattle.rat_core.proofs.Laws.{ℚ_ring, ℚ_ordered, le_refl, le_trans, over-mul, over_le, int-mul, int-neg, mul_nonneg}
-use Rattle.rat_core.proofs.Order.{int_le_back, whole_nonneg, over_nonneg, mul_mono_both, le_abs, neg_le_abs}
+use Rattle.rat_core.proofs.Order.{int_le_back, whole_le, whole_nonneg, over_nonneg, le_abs, neg_le_abs}
 use Rattle.trig_meaning.specs.PartialSums.{pi_sum, sine_sum}
 use Rattle.trig_meaning.specs.FromSomeOn.{FromSomeOn}
 use Rattle.trig_meaning.proofs.Tail.{sine_tail_small}
+use Rattle.trig_meaning.proofs.PiSums.{pi_at_least_three, pi_small, pi_sum_nonneg, quarter_small}
 use Rattle.directed_fixed.specs.Rounding.{IsFloor, IsCeiling}
 use Rattle.directed_fixed.specs.Ends.{Ends, Encloses}
-use Rattle.directed_fixed.proofs.PiSums.{lower, upper, pi_at_least, pi_at_most}
 use Rattle.directed_fixed.proofs.Rounding.{rounded_at_least, rounded_at_most, rounded_in_order, product_size}
 use Rattle.directed_fixed.proofs.Enclosing.{quotient_encloses}
 use Rattle.directed_fixed.proofs.Sizes.{quotient_width}
@@ -26,19 +26,8 @@ use Rattle.sine_fixed.specs.Narrow.{IsNarrow}
 
 -- ---- pi
 
-upper_small : upper ≤ℚ pos 16 ÷ 5
-unfolding upper at_most ◌+ℚ◌ ◌*ℚ◌ ◌÷◌ neg_ℚ
-upper_small = record { le = tt }
-
-lower_large : whole 1 ≤ℚ lower
-unfolding lower at_most ◌+ℚ◌ ◌*ℚ◌ ◌÷◌ neg_ℚ
-lower_large = record { le = tt }
-
-pi_small : (n : ℕ) → 16 ≤ n → pi_sum n ≤ℚ pos 16 ÷ 5
-pi_small n h = le_trans (pi_sum n) upper (pos 16 ÷ 5) (pi_at_most n h) upper_small
-
 pi_large : (n : ℕ) → 16 ≤ n → whole 1 ≤ℚ pi_sum n
-pi_large n h = le_trans (whole 1) lower (pi_sum n) lower_large (pi_at_least n h)
+pi_large n h = le_trans (whole 1) (whole 3) (pi_sum n) (whole_le 1 3 (lit≤ tt)) (pi_at_least_three n h)
 
 -- the units of pi at a scale: at least 0, and the lower end is at most 16/5
 pub pi_units : (bits : ℕ) (lo hi : ℤ) → FromSomeOn (λ n. Encloses bits (record { lo = lo; hi = hi }) (pi_sum n)) → hi ≡ lo +ℤ pos 1 → (pos 0 ≤ℤ lo) × ((pos 5 *ℤ lo) ≤ℤ pos (16 * 2 ^ bits))
@@ -153,10 +142,6 @@ reference_small a h =
     let positive = h.positive in
     over_le (pos a.num) (pos 1) a.den 2 (omega arith) (omega arith) (omega (arith, ints))
 
-half_of_pi : (pos 16 ÷ 5) *ℚ (pos 1 ÷ 2) ≤ℚ pos 8 ÷ 5
-unfolding at_most ◌*ℚ◌ ◌÷◌
-half_of_pi = record { le = tt }
-
 -- ---- the series
 
 -- what is cut off is within one unit
@@ -183,13 +168,9 @@ series_encloses bits angle series sum t room reference h cut longer = (h.0 + 16,
     from n l =
         let z = pi_sum n *ℚ value t in
         let late : 16 ≤ n = omega arith in
-        let pi_nonneg : whole 0 ≤ℚ pi_sum n = le_trans (whole 0) (whole 1) (pi_sum n) (whole_nonneg 1) (pi_large n late) in
         let angle_nonneg : whole 0 ≤ℚ value t = over_nonneg t.num t.den in
-        let low : whole 0 ≤ℚ z = mul_nonneg (pi_sum n) (value t) pi_nonneg angle_nonneg in
-        let high : z ≤ℚ pos 8 ÷ 5 =
-        le_trans z ((pos 16 ÷ 5) *ℚ (pos 1 ÷ 2)) (pos 8 ÷ 5)
-        (mul_mono_both (pi_sum n) (pos 16 ÷ 5) (value t) (pos 1 ÷ 2) angle_nonneg (over_nonneg 16 5) (pi_small n late) (reference_small t reference)) half_of_pi
-        in
+        let low : whole 0 ≤ℚ z = mul_nonneg (pi_sum n) (value t) (pi_sum_nonneg n late) angle_nonneg in
+        let high : z ≤ℚ pos 8 ÷ 5 = quarter_small n late (value t) angle_nonneg (reference_small t reference) in
         subst (Encloses bits sum) (ring₂ ℚ_ring (λ a b. a ⊞ (b ⊟ a)) (λ a b. b) refl (sine_sum 11 z) (sine_sum n z))
         (longer (sine_sum 11 z) (sine_sum n z -ℚ sine_sum 11 z) (cut z (h.1 n (omega arith))) (tail_encloses bits room z low high n (omega arith)))
 

@@ -16,7 +16,7 @@ use Rattle.trig_meaning.proofs.Odd.{sine_sum-neg}
 
 -- ---- halves
 
-half_apart : pos 1 ÷ 2 ≡ whole 1 -ℚ pos 1 ÷ 2
+pub half_apart : pos 1 ÷ 2 ≡ whole 1 -ℚ pos 1 ÷ 2
 unfolding ◌+ℚ◌ neg_ℚ ◌÷◌
 half_apart = sound refl
 
@@ -119,7 +119,7 @@ sine_within_turn-mirrored n t =
 
 -- ---- the approximation is odd
 
-sine_at_zero : (n : ℕ) → sine_within_turn n (whole 0) ≡ neg_ℚ (sine_within_turn n (whole 0))
+pub sine_at_zero : (n : ℕ) → sine_within_turn n (whole 0) ≡ neg_ℚ (sine_within_turn n (whole 0))
 sine_at_zero n =
     let first = on_first n (whole 0) zero_le_half in
     first

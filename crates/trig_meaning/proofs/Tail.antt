@@ -35,7 +35,7 @@ factorial_positive zero = lit< tt
 factorial_positive (suc k) = mul-pos (omega arith) (factorial_positive k)
 
 -- 1 / (c·d) times c is 1 / d
-over_part : (c d : ℕ) → 0 < c → 0 < d → (pos 1 ÷ (c * d)) *ℚ whole c ≡ pos 1 ÷ d
+pub over_part : (c d : ℕ) → 0 < c → 0 < d → (pos 1 ÷ (c * d)) *ℚ whole c ≡ pos 1 ÷ d
 over_part c d p q =
     over-product (pos 1) (pos c) (c * d) 1 (mul-pos p q) (lit< tt)
     ∙ over_same (pos 1 *ℤ pos c) (pos 1) (c * d * 1) d (mul-pos (mul-pos p q) (lit< tt)) q (ring₂ ℤ_ring (λ c d. num 1 ⊠ c ⊠ d) (λ c d. num 1 ⊠ (c ⊠ d ⊠ num 1)) refl (pos c) (pos d))

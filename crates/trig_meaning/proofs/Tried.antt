@@ -1,9 +1,9 @@
 -- The definitions tried on numbers from outside. The right sides were worked out with Python's module `fractions`, from
 -- the textbook's formulas: 16·arctan(1/5) − 4·arctan(1/239), the Taylor polynomial of the sine, and sin(pi·t) by the four
--- pieces with t brought to 0 ≤ t < 2 by t − 2·floor(t/2). Each line is an equation that the checker computes.
+-- pieces with t brought to 0 ≤ t < 2 by t − 2·floor(t/2). Each line is computed by the checker.
 use mathlib.Core.Quot.{sound}
 use Rattle.std.proofs.Common.{◌≡◌, refl, pos, neg_ℤ}
-use Rattle.rat_core.specs.Fraction.{◌÷◌, ◌+ℚ◌, ◌*ℚ◌, neg_ℚ, at_most, floor}
+use Rattle.rat_core.specs.Fraction.{◌÷◌, ◌+ℚ◌, ◌-ℚ◌, ◌*ℚ◌, neg_ℚ, at_most, ◌≤ℚ◌, abs, floor}
 use Rattle.trig_meaning.specs.PartialSums.{arctan_sum, pi_sum, sine_sum}
 use Rattle.trig_meaning.specs.Turn.{sine_of_turn}
 
@@ -82,3 +82,13 @@ sine_1_at_minus_1_4 = sound refl
 sine_1_at_23_6 : sine_of_turn 1 (pos 23 ÷ 6) ≡ neg_ℤ (pos 201075239648032640754870711452) ÷ 402528065800147700291560546875
 unfolding sine_of_turn sine_sum pi_sum arctan_sum at_most floor ◌+ℚ◌ ◌*ℚ◌ neg_ℚ ◌÷◌
 sine_1_at_23_6 = sound refl
+
+-- on the first quarter the approximation at n = 0 is a line, which rises by exactly pi times as much as t
+line_0 : abs (sine_of_turn 0 (pos 1 ÷ 6) -ℚ sine_of_turn 0 (pos 1 ÷ 4)) ≡ pi_sum 0 *ℚ abs (pos 1 ÷ 6 -ℚ pos 1 ÷ 4)
+unfolding sine_of_turn sine_sum pi_sum arctan_sum at_most floor ◌+ℚ◌ ◌*ℚ◌ neg_ℚ ◌÷◌
+line_0 = sound refl
+
+-- across the end of a turn
+steep_1 : abs (sine_of_turn 1 (neg_ℤ (pos 1) ÷ 4) -ℚ sine_of_turn 1 (pos 1 ÷ 6)) ≤ℚ pi_sum 1 *ℚ abs (neg_ℤ (pos 1) ÷ 4 -ℚ pos 1 ÷ 6)
+unfolding sine_of_turn sine_sum pi_sum arctan_sum at_most floor ◌+ℚ◌ ◌*ℚ◌ neg_ℚ ◌÷◌
+steep_1 = record { le = tt }

@@ -1,7 +1,9 @@
 -- The sentences of the laws.
 use Rattle.std.specs.Prelude.{◌≡◌, ℕ, pos}
-use Rattle.rat_core.specs.Fraction.{ℚ, ◌÷◌, whole, neg_ℚ}
+use Rattle.rat_core.specs.Fraction.{ℚ, ◌÷◌, whole, ◌-ℚ◌, ◌*ℚ◌, neg_ℚ, ◌≤ℚ◌, abs}
+use Rattle.trig_meaning.specs.PartialSums.{pi_sum}
 use Rattle.trig_meaning.specs.Turn.{first_piece, second_piece, third_piece, fourth_piece, sine_of_turn}
+use Rattle.trig_meaning.specs.FromSomeOn.{FromSomeOn}
 
 -- where two pieces meet, they agree: at 0 (which is 2), 1/2, 1 and 3/2
 pub record PiecesAgree : Type 0 where
@@ -12,3 +14,7 @@ pub record PiecesAgree : Type 0 where
 
 abbrev pub SineIsOdd : Type 0
 SineIsOdd = (n : ℕ) (t : ℚ) → sine_of_turn n (neg_ℚ t) ≡ neg_ℚ (sine_of_turn n t)
+
+-- from some n on, the approximation changes by at most pi times as much as t does, for all fractions alike
+abbrev pub SineIsLipschitz : Type 0
+SineIsLipschitz = FromSomeOn (λ n. (t u : ℚ) → abs (sine_of_turn n t -ℚ sine_of_turn n u) ≤ℚ pi_sum n *ℚ abs (t -ℚ u))

@@ -5,8 +5,9 @@ ghost use Rattle.billiards_cli.specs.Commands.{IsTriangleOver};
 ghost use Rattle.billiards_cli.specs.Services.{Serves};
 ghost use Rattle.billiards_cli.specs.AtVerdicts.{IsRightAt, IsRightOf, SpellsStable};
 
+use crate::Status;
 use crate::refusal::write_argument_refusal;
-use crate::{Reason, Status};
+use covering_file::Reason;
 use edge_words::Word;
 use gradient_bounds::Prepared;
 use mcb_ends::{Failed, OutOfMemory, Sink, put};

@@ -8,9 +8,10 @@ ghost use Rattle.billiards_cli.specs.Requests as requests;
 ghost use Rattle.billiards_cli.specs.Services.{Serves};
 ghost use Rattle.billiards_cli.specs.Verdicts.{IsJudged, IsRestJudged, IsWhole, AnswersWord, WritesShift, status_after};
 
+use crate::Status;
 use crate::refusal::write_refusal;
 use crate::shift::write_shift;
-use crate::{Reason, Status};
+use covering_file::Reason;
 use edge_words::Word;
 use mcb_ends::{Failed, Line, LineReader, OutOfMemory, Sink, Source, put};
 use std::alloc::Global;

@@ -1,4 +1,4 @@
-use Rattle.gradient_bounds.proofs.Margins.{clear_gives_corridor_lem}
+use Rattle.gradient_bounds.proofs.Boxes.{clear_gives_corridor_lem}
 use Rattle.gradient_bounds.proofs.laws.clear_gives_corridor.Goals as goal
 
 pub returns : goal.returns

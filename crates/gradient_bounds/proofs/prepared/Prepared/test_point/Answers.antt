@@ -1,66 +1,24 @@
-use Rattle.std.proofs.Common.{◌≡◌, refl, sym, subst, subst₂, ◌<◌, List, length, slice_index_or}
-use Rattle.std.specs.Global.{Vec}
-use Rattle.std.specs.List.{All}
-use Rattle.std.proofs.lemmas.List.{take_all}
-use Rattle.std.proofs.lemmas.List.Elements.{All-more}
+use Rattle.std.proofs.Common.{sym, subst}
 use Rattle.rat_core.specs.Written.{value}
-use Rattle.exp_sums.specs.FormalPoint.{FormalPoint}
-use Rattle.gradient_bounds.specs.Angles.{first_angle, second_angle}
 use Rattle.gradient_bounds.specs.Corridor.{EachFunction}
-use Rattle.gradient_bounds.specs.Clear.{slack, IsClearFunction, IsClearAtPoint}
-use Rattle.gradient_bounds.proofs.Margins.{slack_positive, clear_gives_corridor_lem}
-use Rattle.gradient_bounds.proofs.Rows.{each_of_rows, kept_row_has}
+use Rattle.gradient_bounds.specs.Clear.{slack}
+use Rattle.gradient_bounds.specs.Region.{IsClearIn}
+use Rattle.gradient_bounds.proofs.Margins.{slack_positive, clear_at_point_gives_corridor_lem}
+use Rattle.gradient_bounds.proofs.Boxes.{clear_at_point, clear_in_point}
 use Rattle.gradient_bounds.proofs.prepared.Prepared.test_point.Goals as goal
-
-pub returns-then-not-are_clear-clause-found : goal.returns-then-not-are_clear-clause-found
-returns-then-not-are_clear-clause-found g c =
-    λ clear.
-    let at = c.over_one_denominator-at.result in
-    let high = slack g.S.Scale.HIGH_BITS in
-    let P = IsClearFunction (first_angle at) (second_angle at) high in
-    let each : EachFunction c.self.inside.word P =
-    subst (λ w. EachFunction w P) (sym c.self.view_is)
-    (subst₂ (λ x y. EachFunction c.args.self.now (IsClearFunction x y high)) (sym c.over_one_denominator-at.ensures.first) (sym c.over_one_denominator-at.ensures.second) clear)
-    in
-    let row = c.row-item.result in
-    let rows : List (Vec FormalPoint) = c.self.inside.rows.items in
-    let same : c.deref-row-items.result.now ≡ rows = c.deref-row-items.ensures.value in
-    let below : c.loop-row.row-index < length rows = subst (λ (rs : List (Vec FormalPoint)). c.loop-row.row-index < length rs) same c.loop-row-test.true in
-    let is : row ≡ slice_index_or rows c.loop-row.row-index row = subst (λ (rs : List (Vec FormalPoint)). row ≡ slice_index_or rs c.loop-row.row-index row) same c.row-item.is in
-    let all : All P row.items = kept_row_has P c.self.inside.word rows c.loop-row.row-index row c.self.invariant below is each in
-    c.if-not-are_clear.ensures.found (subst (All P) (sym c.as_slice.ensures.value) all)
-
-pub loop-row-preserved : goal.loop-row-preserved
-loop-row-preserved g c =
-    let at = c.over_one_denominator-at.result in
-    let P = IsClearFunction (first_angle at) (second_angle at) (slack g.S.Scale.LOW_BITS) in
-    let R = λ (row : Vec FormalPoint). All P row.items in
-    let here : R c.row-item.result = subst (All P) c.as_slice.ensures.value (c.if-not-are_clear.ensures.clear refl) in
-    All-more R c.deref-row-items.result.now c.loop-row.row-index c.row-item.result c.loop-row-test.true c.loop-row.invariant (subst R c.row-item.is here)
 
 pub returns-clause-clear : goal.returns-clause-clear
 returns-clause-clear g c =
-    λ _.
-    let at = c.over_one_denominator-at.result in
-    let low = slack g.S.Scale.LOW_BITS in
-    let P = IsClearFunction (first_angle at) (second_angle at) low in
-    let rows : List (Vec FormalPoint) = c.self.inside.rows.items in
-    let same : c.deref-row-items.result.now ≡ rows = c.deref-row-items.ensures.value in
-    let passed : All (λ row. All P row.items) c.deref-row-items.result.now = subst (All (λ row. All P row.items)) (take_all c.loop-row.row-index c.deref-row-items.result.now c.loop-row-test.false) c.loop-row.invariant in
-    let each : EachFunction c.self.inside.word P = each_of_rows P c.self.inside.word rows c.self.invariant (subst (All (λ row. All P row.items)) same passed) in
-    subst₂ (λ x y. IsClearAtPoint c.args.self.now x y low) c.over_one_denominator-at.ensures.first c.over_one_denominator-at.ensures.second (subst (λ w. EachFunction w P) c.self.view_is each)
+    λ passed. clear_at_point c.args.self.now (value c.args.x) (value c.args.y) (slack g.S.Scale.LOW_BITS)
+    (subst (λ b. EachFunction c.args.self.now (IsClearIn b (slack g.S.Scale.LOW_BITS))) c.point.ensures.ball (c.is_clear_in.ensures.clear passed))
+
+pub returns-clause-found : goal.returns-clause-found
+returns-clause-found g c =
+    λ clear. c.is_clear_in.ensures.found
+    (subst (λ b. EachFunction c.args.self.now (IsClearIn b (slack g.S.Scale.HIGH_BITS))) (sym c.point.ensures.ball) (clear_in_point c.args.self.now (value c.args.x) (value c.args.y) (slack g.S.Scale.HIGH_BITS) clear))
 
 pub returns-clause-corridor : goal.returns-clause-corridor
 returns-clause-corridor g c =
-    λ _.
-    let at = c.over_one_denominator-at.result in
-    let low = slack g.S.Scale.LOW_BITS in
-    let P = IsClearFunction (first_angle at) (second_angle at) low in
-    let rows : List (Vec FormalPoint) = c.self.inside.rows.items in
-    let same : c.deref-row-items.result.now ≡ rows = c.deref-row-items.ensures.value in
-    let passed : All (λ row. All P row.items) c.deref-row-items.result.now = subst (All (λ row. All P row.items)) (take_all c.loop-row.row-index c.deref-row-items.result.now c.loop-row-test.false) c.loop-row.invariant in
-    let each : EachFunction c.self.inside.word P = each_of_rows P c.self.inside.word rows c.self.invariant (subst (All (λ row. All P row.items)) same passed) in
-    let clear : IsClearAtPoint c.args.self.now (value c.args.x) (value c.args.y) low =
-    subst₂ (λ x y. IsClearAtPoint c.args.self.now x y low) c.over_one_denominator-at.ensures.first c.over_one_denominator-at.ensures.second (subst (λ w. EachFunction w P) c.self.view_is each)
-    in
-    clear_gives_corridor_lem c.args.self.now (value c.args.x) (value c.args.y) low (slack_positive g.S.Scale.LOW_BITS) clear
+    λ passed. clear_at_point_gives_corridor_lem c.args.self.now (value c.args.x) (value c.args.y) (slack g.S.Scale.LOW_BITS) (slack_positive g.S.Scale.LOW_BITS)
+    (clear_at_point c.args.self.now (value c.args.x) (value c.args.y) (slack g.S.Scale.LOW_BITS)
+    (subst (λ b. EachFunction c.args.self.now (IsClearIn b (slack g.S.Scale.LOW_BITS))) c.point.ensures.ball (c.is_clear_in.ensures.clear passed)))

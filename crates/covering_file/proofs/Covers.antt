@@ -1,0 +1,93 @@
+-- Each point of the polygon lies in a box of a sound tree that is shown, and so has a corridor.
+use Rattle.std.proofs.Common.{◌⊎◌, inl, inr, ℕ, zero, suc, ◌^◌, ◌<◌, pos, refl, arith}
+use Rattle.std.proofs.lemmas.Int.{ints}
+use Rattle.std.proofs.lemmas.Nat.{pow_pos}
+use Rattle.rat_core.specs.Fraction.{ℚ, whole, ◌≤ℚ◌, ◌<ℚ◌}
+use Rattle.rat_core.proofs.Laws.{over_le}
+use Rattle.rat_core.proofs.Order.{over_positive}
+use Rattle.rational_polygon.specs.Point.{Point}
+use Rattle.rational_polygon.specs.Square.{Square, unit_square, child, IsInBox}
+use Rattle.rational_polygon.specs.Outline.{IsInPolygon}
+use Rattle.rational_polygon.proofs.Grid.{in_unit_square}
+use Rattle.rational_polygon.proofs.Halves.{some_child}
+use Rattle.rational_polygon.proofs.Separation.{apart_has_none}
+use Rattle.gradient_bounds.specs.Clear.{slack}
+use Rattle.gradient_bounds.proofs.Boxes.{clear_gives_corridor_lem, clear_with_less_lem}
+use Rattle.covering_file.specs.declared.node.Node.{Node}
+use Rattle.covering_file.specs.declared.node.Node.TheVariants.{Split, Outside, Shown, Uncovered}
+use Rattle.covering_file.specs.Header.{Heading}
+use Rattle.covering_file.specs.Faults.{word_at}
+use Rattle.covering_file.specs.Tree.{outside, shown, uncovered, Tree, leaf, split, StandsAt}
+use Rattle.covering_file.specs.Sound.{IsSoundNode}
+use Rattle.covering_file.specs.Laws.{SoundCovers, SoundIsCovered, SureIsSound}
+
+-- in the tree of `root`, a box that is shown and has the point
+record IsFound (root : Square) (t : Tree) (p : Point) : Type 0 where
+  box : Square
+  word : ℕ
+  stands : StandsAt root t box (Shown word)
+  inside : IsInBox box p
+
+-- what holds of a number below four holds of one of the four
+one_of_four : (c : ℕ) (P : ℕ → Type 0) → c < 4 → P c → P 0 ⊎ P 1 ⊎ P 2 ⊎ P 3
+one_of_four zero P less p = inl p
+one_of_four (suc zero) P less p = inr (inl p)
+one_of_four (suc (suc zero)) P less p = inr (inr (inl p))
+one_of_four (suc (suc (suc zero))) P less p = inr (inr (inr p))
+one_of_four (suc (suc (suc (suc c)))) P less p = absurd (omega (arith, less))
+
+abbrev IsSoundFrom : Heading → ℚ → Square → Tree → Type 0
+IsSoundFrom h e root t = (box : Square) (node : Node) → StandsAt root t box node → IsSoundNode h e box node
+
+found : (t : Tree) (h : Heading) (e : ℚ) (root : Square) (p : Point) → IsSoundFrom h e root t → IsInPolygon h.outline p → IsInBox root p → IsFound root t p
+found (leaf outside) h e root p sound of_polygon inside = absurd (apart_has_none root h.outline p (sound root Outside (refl, refl)) of_polygon inside)
+found (leaf (shown i)) h e root p sound of_polygon inside = record { box = root; word = i; stands = (refl, refl); inside = inside }
+found (leaf uncovered) h e root p sound of_polygon inside = absurd (sound root Uncovered (refl, refl))
+found (split a b c d) h e root p sound of_polygon inside =
+    let part = some_child root p inside in
+    elim (one_of_four part.0 (λ k. IsInBox (child root k) p) part.1 part.2) [
+      | inl there ↦
+          let f = found a h e (child root 0) p (λ box node s. sound box node (inr (inl s))) of_polygon there in
+          record { box = f.box; word = f.word; stands = inr (inl f.stands); inside = f.inside }
+      | inr after_a ↦ elim after_a [
+        | inl there ↦
+            let f = found b h e (child root 1) p (λ box node s. sound box node (inr (inr (inl s)))) of_polygon there in
+            record { box = f.box; word = f.word; stands = inr (inr (inl f.stands)); inside = f.inside }
+        | inr after_b ↦ elim after_b [
+          | inl there ↦
+              let f = found c h e (child root 2) p (λ box node s. sound box node (inr (inr (inr (inl s))))) of_polygon there in
+              record { box = f.box; word = f.word; stands = inr (inr (inr (inl f.stands))); inside = f.inside }
+          | inr there ↦
+              let f = found d h e (child root 3) p (λ box node s. sound box node (inr (inr (inr (inr s))))) of_polygon there in
+              record { box = f.box; word = f.word; stands = inr (inr (inr (inr f.stands))); inside = f.inside }
+        ]
+      ]
+    ]
+
+pub sound_covers : SoundCovers
+sound_covers h t heading sound p of_polygon =
+    let f = found t h (slack 60) unit_square p sound of_polygon (in_unit_square h.outline p heading.polygon of_polygon) in
+    (f.box, f.word, f.stands, f.inside)
+
+-- ---- slacks
+
+positive : whole 0 <ℚ slack 60
+positive = over_positive 1 (2 ^ 60) (omega arith) (pow_pos 60)
+
+narrower : slack 60 ≤ℚ slack 40
+narrower = over_le (pos 1) (pos 1) (2 ^ 60) (2 ^ 40) (pow_pos 60) (pow_pos 40) (omega (arith, ints))
+
+pub sound_is_covered : SoundIsCovered
+sound_is_covered h t heading sound p of_polygon triangle =
+    let f = sound_covers h t heading sound p of_polygon in
+    let shows = sound f.0 (Shown f.1) f.2 in
+    (f.1, shows.0, clear_gives_corridor_lem (word_at h.words f.1) f.0 (slack 60) positive shows.1 p f.3)
+
+sure_node : (h : Heading) (box : Square) (node : Node) → IsSoundNode h (slack 40) box node → IsSoundNode h (slack 60) box node
+sure_node h box Split sure = sure
+sure_node h box Outside sure = sure
+sure_node h box (Shown i) sure = (sure.0, clear_with_less_lem (word_at h.words i) box (slack 40) (slack 60) narrower sure.1)
+sure_node h box Uncovered sure = sure
+
+pub sure_is_sound : SureIsSound
+sure_is_sound h t sure box node stands = sure_node h box node (sure box node stands)

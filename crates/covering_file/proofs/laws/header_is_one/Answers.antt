@@ -1,0 +1,5 @@
+use Rattle.covering_file.proofs.OneHeader.{header_is_one}
+use Rattle.covering_file.proofs.laws.header_is_one.Goals as goal
+
+pub returns : goal.returns
+returns c = header_is_one

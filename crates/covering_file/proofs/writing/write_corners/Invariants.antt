@@ -1,0 +1,15 @@
+use Rattle.std.proofs.Common.{◌≡◌, map, take}
+use Rattle.std.specs.Io.KnownBytes.{Appends}
+use Rattle.covering_file.specs.Header.{corner_line}
+use Rattle.covering_file.specs.Text.{text_of}
+use Rattle.covering_file.proofs.writing.write_corners.Given as goal
+
+-- the corners so far are written, and room and count stand
+abbrev pub invariant-loop-corner : goal.invariant-loop-corner
+invariant-loop-corner g l =
+    let k = g.K.Sink in
+    record {
+      text : Appends (k.written l.fn.out) (k.written l.out) (text_of (map corner_line (take l.corner-index l.corners)));
+      room : k.room l.out ≡ k.room l.fn.out;
+      faults : k.faults l.out ≡ k.faults l.fn.out;
+    }

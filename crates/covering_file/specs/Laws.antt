@@ -1,0 +1,79 @@
+-- What follows from the definitions alone.
+use Rattle.std.specs.Prelude.{◌≡◌, ℕ, ◌↔◌, List, [], ◌∷◌, ◌++◌, length}
+use Rattle.rational_polygon.specs.Point.{Point}
+use Rattle.rational_polygon.specs.Square.{Square, unit_square, IsInBox}
+use Rattle.rational_polygon.specs.Outline.{IsInPolygon}
+use Rattle.covering_file.specs.declared.file_kind.FileKind.{FileKind}
+use Rattle.covering_file.specs.declared.node.Node.{Node}
+use Rattle.covering_file.specs.declared.node.Node.TheVariants.{Shown}
+use Rattle.covering_file.specs.declared.reason.Reason.{Reason}
+use Rattle.covering_file.specs.Text.{text_of}
+use Rattle.covering_file.specs.Header.{Heading, IsHeading, header_text, job_text}
+use Rattle.covering_file.specs.HeaderOffence.{header_grammar}
+use Rattle.covering_file.specs.JobOffence.{job_grammar}
+use Rattle.covering_file.specs.Offence.{IsFirstOffence}
+use Rattle.covering_file.specs.Tree.{Tree, preorder, StandsAt, file_text}
+use Rattle.covering_file.specs.DueBoxes.{due_boxes, AreWhole, StandsIn}
+use Rattle.covering_file.specs.Sound.{IsSound, IsSure}
+use Rattle.covering_file.specs.Covering.{IsCovered, IsCovering}
+use Rattle.covering_file.specs.FileOffence.{MayPass, AfterEnd, lines_before}
+use Rattle.covering_file.specs.Verdicts.{IsAccepted, IsRefused, IsSureFile}
+
+-- bytes that begin with the texts of two headers begin with one
+abbrev pub HeaderIsOne : Type 0
+HeaderIsOne = (kind other : FileKind) (g h : Heading) (x y : List ℕ) → IsHeading g → IsHeading h → header_text kind g ++ x ≡ header_text other h ++ y → (kind ≡ other) × (g ≡ h) × (x ≡ y)
+
+-- no text of a header is a prefix of the text of another header
+abbrev pub NoHeaderPrefix : Type 0
+NoHeaderPrefix = (kind other : FileKind) (g h : Heading) (rest : List ℕ) → IsHeading g → IsHeading h → header_text kind g ++ rest ≡ header_text other h → (kind ≡ other) × (g ≡ h)
+
+-- no line of a header offends, whatever follows it
+abbrev pub HeaderNeverOffends : Type 0
+HeaderNeverOffends = (kind : FileKind) (h : Heading) (rest : List ℕ) (line : ℕ) (reason : Reason) → IsHeading h → ¬ (IsFirstOffence (header_grammar kind) (header_text kind h ++ rest) line reason)
+
+-- no line of a job offends
+abbrev pub JobNeverOffends : Type 0
+JobNeverOffends = (h : Heading) (line : ℕ) (reason : Reason) → IsHeading h → ¬ (IsFirstOffence job_grammar (job_text h) line reason)
+
+-- ---- trees
+
+-- Nodes are those of a whole tree exactly where a box is due before each and none after all.
+abbrev pub WholeIsTree : Type 0
+WholeIsTree = (nodes : List Node) → AreWhole nodes ↔ ((t : Tree) × (preorder t ≡ nodes))
+
+-- and of one tree alone
+abbrev pub TreeIsOne : Type 0
+TreeIsOne = (s t : Tree) → preorder s ≡ preorder t → s ≡ t
+
+-- a node stands in a tree at the box that is the first due one before it in the tree's list
+abbrev pub StandingIsDue : Type 0
+StandingIsDue = (t : Tree) (box : Square) (node : Node) → StandsAt unit_square t box node ↔ StandsIn (unit_square ∷ []) (preorder t) box node
+
+-- where the tree of a file is sound, each point of the polygon lies in a box of a leaf that is shown
+abbrev pub SoundCovers : Type 0
+SoundCovers = (h : Heading) (t : Tree) → IsHeading h → IsSound h t → (p : Point) → IsInPolygon h.outline p → (box : Square) × (i : ℕ) × StandsAt unit_square t box (Shown i) × IsInBox box p
+
+-- and has a corridor of the listed word for which it is shown
+abbrev pub SoundIsCovered : Type 0
+SoundIsCovered = (h : Heading) (t : Tree) → IsHeading h → IsSound h t → IsCovered h
+
+abbrev pub SureIsSound : Type 0
+SureIsSound = (h : Heading) (t : Tree) → IsSure h t → IsSound h t
+
+-- the text of a file is that of its lines
+abbrev pub FileTextIsLines : Type 0
+FileTextIsLines = (h : Heading) (t : Tree) → file_text h t ≡ text_of (lines_before (AfterEnd h (preorder t)))
+
+-- ---- verdicts
+
+-- an accepted file is whole, and its polygon is covered
+abbrev pub AcceptedIsCovering : Type 0
+AcceptedIsCovering = (limit nodes words : ℕ) (bytes : List ℕ) → IsAccepted limit nodes words bytes → IsCovering limit bytes
+
+-- a file whose lines can all pass is accepted
+abbrev pub PassedIsAccepted : Type 0
+PassedIsAccepted = (limit : ℕ) (h : Heading) (nodes : List Node) → MayPass limit h nodes → due_boxes nodes ≡ [] → IsAccepted limit (length nodes) (length h.words) (text_of (lines_before (AfterEnd h nodes)))
+
+-- no line of a file with a sure tree within the limit is refused
+abbrev pub SureIsNotRefused : Type 0
+SureIsNotRefused = (limit : ℕ) (bytes : List ℕ) (line : ℕ) (reason : Reason) → IsSureFile limit bytes → ¬ (IsRefused limit line reason bytes)

@@ -1,0 +1,8 @@
+/// What stands behind the header.
+#[derive(Clone, Copy, Debug, PartialEq, Eq)]
+pub enum FileKind {
+    /// A tree: the file is a covering.
+    Cover,
+    /// Nothing: the file is a job for the coverer.
+    Job,
+}

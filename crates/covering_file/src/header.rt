@@ -1,0 +1,112 @@
+ghost use Rattle.std.specs.Prelude.{◌≡◌, ◌≤◌, ◌↔◌, IsOk, IfOk, Err, MatchOption, IsTrue, All, length};
+ghost use Rattle.edge_words.specs.Stable.{IsStable};
+ghost use Rattle.edge_words.specs.Word.{IsWord};
+ghost use Rattle.covering_file.specs.Header.{IsStableWord, IsWordCount, IsDepth, IsHeading};
+ghost use Rattle.covering_file.specs.Faults.{IsFirstUnstable, IsFaultOf};
+ghost use Rattle.covering_file.specs.declared.fault.HeaderFault.{HeaderFault};
+
+use crate::fault::HeaderFault;
+use edge_words::Word;
+use rational_polygon::Polygon;
+use std::marker::Model;
+
+/// A polygon, 1 to 32 stable words and a depth from 0 to 20: what a covering is of, what it may use, and how deep its tree may be.
+#[derive(Debug, Drop)]
+pub struct Header {
+    polygon: Polygon,
+    words: Vec<Word>,
+    depth: u32,
+}
+
+impl Model for Header {
+    ghost use Rattle.covering_file.specs.Header.{Heading, IsHeading};
+
+    ghost Value = { Heading };
+
+    ghost view = { λ h. record { outline = h.polygon; words = h.words.items; depth = h.depth } };
+
+    ghost invariant = { λ h. IsHeading (record { outline = h.polygon; words = h.words.items; depth = h.depth }) };
+}
+
+impl Header {
+    /// The header with these parts. It keeps them; where they make no header, they are dropped. It takes no memory.
+    pub fn new(polygon: Polygon, words: Vec<Word>, depth: u32) -> Result<Header, HeaderFault>
+        ensures heading { IsOk result ↔ IsHeading (record { outline = polygon; words = words.items; depth = depth }) }
+        ensures kept { IfOk result (λ header. header ≡ record { outline = polygon; words = words.items; depth = depth }) }
+        ensures refused { (fault : HeaderFault) → (result ≡ Err fault) ↔ IsFaultOf words.items depth fault }
+    {
+        // What it answers tells the check that they are those of a polygon.
+        let _corners = polygon.corners();
+        match first_fault(words.as_slice(), depth) {
+            Some(fault) => Err(fault),
+            None => Ok(Header {
+                polygon,
+                words,
+                depth,
+            }),
+        }
+    }
+
+    /// The polygon.
+    pub fn polygon(&self) -> &Polygon
+        ensures value { result.now ≡ self.now.outline }
+        ensures is_heading { IsHeading self.now }
+    {
+        &self.polygon
+    }
+
+    /// The words, each stable, counted from 1 in a file.
+    pub fn words(&self) -> &[Word]
+        ensures all { result.now ≡ self.now.words }
+        ensures is_heading { IsHeading self.now }
+    {
+        self.words.as_slice()
+    }
+
+    /// How deep the tree may be.
+    pub fn depth(&self) -> u32
+        ensures value { result ≡ self.now.depth }
+        ensures is_heading { IsHeading self.now }
+    {
+        self.depth
+    }
+}
+
+// The first condition on words and a depth that fails, if one does.
+fn first_fault(words: &[Word], depth: u32) -> Option<HeaderFault>
+    ensures { MatchOption result (IsWordCount (length words.now) × All IsStableWord words.now × IsDepth depth) (IsFaultOf words.now depth) }
+{
+    if !(1..=32).contains(&words.len()) {
+        return Some(HeaderFault::Words);
+    }
+    if let Some(i) = first_unstable(words) {
+        return Some(HeaderFault::Unstable { i });
+    }
+    if depth > 20 {
+        return Some(HeaderFault::Depth);
+    }
+    None
+}
+
+// The number of the first word that is not stable.
+fn first_unstable(words: &[Word]) -> Option<u32>
+    requires { length words.now ≤ 32 }
+    ensures { MatchOption result (All IsStableWord words.now) (IsFirstUnstable words.now) }
+{
+    for (k, word) in words.iter().enumerate() {
+        if !is_stable(word) {
+            return Some(k as u32 + 1);
+        }
+    }
+    None
+}
+
+// Whether a word is stable.
+fn is_stable(word: &Word) -> bool
+    ensures is_word { IsWord word.now }
+    ensures stable { IsTrue result ↔ IsStable word.now }
+{
+    // What it answers tells the check that they are those of a word.
+    let _letters = word.letters();
+    word.is_stable()
+}

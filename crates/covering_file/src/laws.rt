@@ -1,0 +1,72 @@
+//! What follows from the definitions alone: each function's contract is a law. The program calls none.
+ghost use Rattle.covering_file.specs.Laws.{HeaderIsOne, NoHeaderPrefix, HeaderNeverOffends, JobNeverOffends, WholeIsTree, TreeIsOne, StandingIsDue, SoundCovers, SoundIsCovered, SureIsSound, FileTextIsLines, PassedIsAccepted, AcceptedIsCovering, SureIsNotRefused};
+
+/// Bytes that begin with the texts of two headers begin with one.
+pub fn header_is_one()
+    ensures { HeaderIsOne }
+{}
+
+/// No text of a header is a prefix of the text of another header.
+pub fn no_header_prefix()
+    ensures { NoHeaderPrefix }
+{}
+
+/// No line of a header offends, so that a header is refused never.
+pub fn header_never_offends()
+    ensures { HeaderNeverOffends }
+{}
+
+/// No line of a job offends.
+pub fn job_never_offends()
+    ensures { JobNeverOffends }
+{}
+
+/// The nodes of a list are those of a whole tree exactly where a box is due before each and none after all.
+pub fn whole_is_tree()
+    ensures { WholeIsTree }
+{}
+
+/// And they are those of one tree alone.
+pub fn tree_is_one()
+    ensures { TreeIsOne }
+{}
+
+/// A node stands in a tree at the box that is the first due one before it in the tree's list.
+pub fn standing_is_due()
+    ensures { StandingIsDue }
+{}
+
+/// Where the tree of a file is sound, each point of the polygon lies in a box of a leaf that is shown.
+pub fn sound_covers()
+    ensures { SoundCovers }
+{}
+
+/// Where the tree of a file is sound, every point of the polygon that is a triangle has a corridor of a listed word.
+pub fn sound_is_covered()
+    ensures { SoundIsCovered }
+{}
+
+/// A sure tree is sound.
+pub fn sure_is_sound()
+    ensures { SureIsSound }
+{}
+
+/// The text of a file is that of its lines.
+pub fn file_text_is_lines()
+    ensures { FileTextIsLines }
+{}
+
+/// An accepted file is whole, and its polygon is covered.
+pub fn accepted_is_covering()
+    ensures { AcceptedIsCovering }
+{}
+
+/// A file whose lines can all pass is accepted.
+pub fn passed_is_accepted()
+    ensures { PassedIsAccepted }
+{}
+
+/// No line of a file with a sure tree within the limit is refused.
+pub fn sure_is_not_refused()
+    ensures { SureIsNotRefused }
+{}

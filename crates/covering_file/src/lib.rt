@@ -1,0 +1,37 @@
+//! The covering file, both ways: a polygon, stable words, and a quadtree whose leaves are apart from the polygon, shown for
+//! one word, or uncovered.
+//!
+//! The one contract: what is read is what the bytes say, what is written is the text of what was given, and of what is no
+//! file the first offending line is named, with its least reason. A sound tree covers its polygon.
+#![tactic(auto)]
+
+mod due_line;
+mod fault;
+mod fields;
+mod file_kind;
+mod form;
+mod header;
+mod job;
+pub mod laws;
+mod node;
+mod outline;
+mod reading;
+mod reason;
+mod words;
+mod writing;
+
+pub use due_line::{end_of_input, take};
+pub use fault::{HeadFault, HeaderFault};
+pub use file_kind::FileKind;
+pub use form::{Form, Whole};
+pub use header::Header;
+pub use job::read_job;
+pub use node::{Node, read_node};
+pub use reading::read_header;
+pub use reason::Reason;
+pub use writing::{write_end, write_header, write_node};
+
+#[cfg(test)]
+mod node_tests;
+#[cfg(test)]
+mod tests;

@@ -1,0 +1,218 @@
+use crate::{FileKind, HeadFault, Header, HeaderFault, Reason, read_header, read_job};
+use edge_words::Word;
+use mcb_ends::{Line, LineReader, MemSource};
+use rational_polygon::Polygon;
+use std::alloc::{AllocError, Global};
+use std::test::Fail;
+
+const CORNERS: [(u32, u32); 3] = [(127, 127), (128, 127), (127, 128)];
+
+const COVER: &str =
+    "mcbcover 1\ngrid 384\npolygon 3\n127 127\n128 127\n127 128\nwords 1\n123123\ndepth 7\ns\n";
+
+const JOB: &str =
+    "mcbjob 1\ngrid 384\npolygon 3\n127 127\n128 127\n127 128\nwords 1\n123123\ndepth 7\n";
+
+fn told(alloc: Global, text: &str) -> Result<MemSource, AllocError> {
+    Ok(MemSource::new(text.as_bytes().to_vec(alloc)?, 4096, Vec::new(alloc)))
+}
+
+fn cover_fault(alloc: Global, text: &str) -> Result<Option<HeadFault>, AllocError> {
+    let mut src = told(alloc, text)?;
+    Ok(read_header(alloc, FileKind::Cover, &mut LineReader::new(), &mut src).err())
+}
+
+// The fault of the lines of a job's header, and then this.
+fn job_fault(alloc: Global, end: &str) -> Result<Option<HeadFault>, AllocError> {
+    let mut text = String::from_str(alloc, JOB)?;
+    text.push_str(end)?;
+    let mut src = told(alloc, text.as_str())?;
+    Ok(read_job(alloc, &mut src).err())
+}
+
+#[test]
+fn reads_a_header(rt: HostRuntime) -> Result<(), Fail> {
+    let alloc = rt.alloc();
+    let mut src = told(alloc, COVER)?;
+    let mut lines = LineReader::new();
+    let header = read_header(alloc, FileKind::Cover, &mut lines, &mut src)?;
+    assert_eq!(rt; header.polygon().grid(), 384);
+    assert_eq!(rt; header.polygon().corners(), CORNERS.as_slice());
+    assert_eq!(rt; header.words().len(), 1);
+    assert_eq!(rt; header.words()[0].letters(), [1, 2, 3, 1, 2, 3].as_slice());
+    assert_eq!(rt; header.depth(), 7);
+    assert_eq!(rt; lines.number(), 9);
+    assert!(rt; matches!(lines.next(&mut src), Ok(Line::Text(b"s"))));
+    Ok(())
+}
+
+#[test]
+fn refuses_first_lines_grids_and_counts(rt: HostRuntime) -> Result<(), Fail> {
+    let rows = [
+        ("", 1, Reason::Ends),
+        ("mcbcover 1", 1, Reason::Ends),
+        ("mcbcover 01\n", 1, Reason::OtherLine),
+        ("mcbjob 1\n", 1, Reason::OtherLine),
+        ("mcbcover 1\n", 2, Reason::Ends),
+        ("mcbcover 1\ngrid 384", 2, Reason::Ends),
+        ("mcbcover 1\ngrid  384\n", 2, Reason::OtherLine),
+        ("mcbcover 1\ngrid 384 \n", 2, Reason::OtherLine),
+        ("mcbcover 1\ngrid\n", 2, Reason::OtherLine),
+        ("mcbcover 1\nwords 384\n", 2, Reason::OtherLine),
+        ("mcbcover 1\ngrid 0384\n", 2, Reason::Number),
+        ("mcbcover 1\ngrid 384\r\n", 2, Reason::Number),
+        ("mcbcover 1\ngrid 0\n", 2, Reason::Number),
+        ("mcbcover 1\ngrid 1048577\n", 2, Reason::Number),
+        ("mcbcover 1\ngrid 384\npolygon 2\n", 3, Reason::Number),
+        ("mcbcover 1\ngrid 384\npolygon 17\n", 3, Reason::Number),
+    ];
+    for (text, line, reason) in rows {
+        assert_eq!(rt;
+            cover_fault(rt.alloc(), text)?,
+            Some(HeadFault::Line { line, reason }),
+            "{text:?}"
+        );
+    }
+    Ok(())
+}
+
+// The lines from the first corner on, in a grid of 384.
+#[test]
+fn refuses_corners(rt: HostRuntime) -> Result<(), Fail> {
+    let alloc = rt.alloc();
+    let rows = [
+        ("3\n127\n", 4, Reason::OtherLine),
+        ("3\n127 127 \n", 4, Reason::OtherLine),
+        ("3\n127 0127\n", 4, Reason::Number),
+        ("3\n127 1048577\n", 4, Reason::Number),
+        ("3\n192 192\n", 4, Reason::CornerOutside),
+        ("3\n0 127\n", 4, Reason::CornerOutside),
+        ("3\n127 0\n", 4, Reason::CornerOutside),
+        ("3\n127 127\n1", 5, Reason::Ends),
+        ("3\n127 127\n127 128\n128 127\n", 6, Reason::NotConvex),
+        (
+            "4\n100 100\n110 100\n120 100\n110 110\n",
+            7,
+            Reason::NotConvex,
+        ),
+        (
+            "5\n110 100\n124 110\n106 110\n120 100\n115 118\n",
+            8,
+            Reason::NotConvex,
+        ),
+    ];
+    for (corners, line, reason) in rows {
+        let mut text = String::from_str(alloc, "mcbcover 1\ngrid 384\npolygon ")?;
+        text.push_str(corners)?;
+        assert_eq!(rt;
+            cover_fault(alloc, text.as_str())?,
+            Some(HeadFault::Line { line, reason }),
+            "{corners:?}"
+        );
+    }
+    Ok(())
+}
+
+// The lines behind the last corner.
+#[test]
+fn refuses_words_and_depths(rt: HostRuntime) -> Result<(), Fail> {
+    let alloc = rt.alloc();
+    let long = "111111111111111111111111111111111111111111111111111111111111111111111111111111111";
+    let rows = [
+        ("words 0\n", "", 7, Reason::Number),
+        ("words 33\n", "", 7, Reason::Number),
+        ("words 1\n", "\n", 8, Reason::NotAWord),
+        ("words 1\n", "123121\n", 8, Reason::NotAWord),
+        ("words 1\n", "121323\n", 8, Reason::UnstableWord),
+        ("words 1\n", long, 8, Reason::TooLong),
+        ("words 2\n123123\n", "depth 7\n", 9, Reason::NotAWord),
+        ("words 1\n123123\n", "depth 21\n", 9, Reason::Number),
+        ("words 1\n123123\n", "depth 07\n", 9, Reason::Number),
+        ("words 1\n123123\n", "depth 7", 9, Reason::Ends),
+    ];
+    for (words, last, line, reason) in rows {
+        let mut text = String::from_str(
+            alloc,
+            "mcbcover 1\ngrid 384\npolygon 3\n127 127\n128 127\n127 128\n",
+        )?;
+        text.push_str(words)?;
+        text.push_str(last)?;
+        assert_eq!(rt;
+            cover_fault(alloc, text.as_str())?,
+            Some(HeadFault::Line { line, reason }),
+            "{words:?} {last:?}"
+        );
+    }
+    Ok(())
+}
+
+#[test]
+fn reads_a_job_and_nothing_behind_it(rt: HostRuntime) -> Result<(), Fail> {
+    let alloc = rt.alloc();
+    let long = "eeeeeeeeeeeeeeeeeeeeeeeeeeeeeeeeeeeeeeeeeeeeeeeeeeeeeeeeeeeeeeeeeeeeeeeeeeeeeeeee";
+    assert_eq!(rt; job_fault(alloc, "end\n")?, None);
+    let rows = [
+        ("", 10, Reason::Ends),
+        ("end", 10, Reason::Ends),
+        (long, 10, Reason::TooLong),
+        ("end complete\n", 10, Reason::EndLine),
+        ("end\n\n", 11, Reason::EndLine),
+        ("end\nx", 11, Reason::EndLine),
+        ("end\neee", 11, Reason::EndLine),
+    ];
+    for (end, line, reason) in rows {
+        assert_eq!(rt;
+            job_fault(alloc, end)?,
+            Some(HeadFault::Line { line, reason }),
+            "{end:?}"
+        );
+    }
+    Ok(())
+}
+
+#[test]
+fn reads_in_pieces_and_says_where_a_read_failed(rt: HostRuntime) -> Result<(), Fail> {
+    let alloc = rt.alloc();
+    for piece in [1, 16] {
+        let mut src = MemSource::new(COVER.as_bytes().to_vec(alloc)?, piece, Vec::new(alloc));
+        let header = read_header(alloc, FileKind::Cover, &mut LineReader::new(), &mut src)?;
+        assert_eq!(rt; header.depth(), 7);
+    }
+    let mut src = MemSource::new(COVER.as_bytes().to_vec(alloc)?, 16, vec![in alloc; 3]?);
+    assert_eq!(rt;
+        read_header(alloc, FileKind::Cover, &mut LineReader::new(), &mut src).err(),
+        Some(HeadFault::Read)
+    );
+    let mut src = MemSource::new(JOB.as_bytes().to_vec(alloc)?, 4096, vec![in alloc; 2]?);
+    assert_eq!(rt; read_job(alloc, &mut src).err(), Some(HeadFault::Read));
+    Ok(())
+}
+
+fn made(
+    alloc: Global,
+    spelled: &[[u8; 6]],
+    depth: u32,
+) -> Result<Result<Header, HeaderFault>, Fail> {
+    let polygon = Polygon::new(384, CORNERS.to_vec(alloc)?)?;
+    let mut words = Vec::new(alloc);
+    for digits in spelled {
+        words.push(Word::read(alloc, digits)?)?;
+    }
+    Ok(Header::new(polygon, words, depth))
+}
+
+#[test]
+fn makes_headers(rt: HostRuntime) -> Result<(), Fail> {
+    let alloc = rt.alloc();
+    assert_eq!(rt; made(alloc, &[*b"123123"], 20)?.map(|h| h.depth()), Ok(20));
+    assert_eq!(rt; made(alloc, &[], 21)?.err(), Some(HeaderFault::Words));
+    assert_eq!(rt;
+        made(alloc, &[*b"123123", *b"121323"], 21)?.err(),
+        Some(HeaderFault::Unstable { i: 2 })
+    );
+    assert_eq!(rt;
+        made(alloc, &[*b"123123"], 21)?.err(),
+        Some(HeaderFault::Depth)
+    );
+    Ok(())
+}
