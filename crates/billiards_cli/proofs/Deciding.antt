@@ -1,7 +1,7 @@
 -- The input of `word` decides the status, where nothing outside fails.
 use Rattle.std.proofs.Common.{◌≡◌, ◌≢◌, ℕ, List, [], Option, Some, IfSome, refl, sym, subst, ◌∙◌, inl, inr, ⊎_elim, arith}
 use Rattle.mcb_ends.specs.Causes.{Rose}
-use Rattle.mcb_ends.specs.Lines.{Next, Text, TooLong, CutShort, End}
+use Rattle.mcb_ends.specs.Lines.{Text, TooLong, CutShort, End}
 use Rattle.mcb_ends.proofs.OneNext.{IsNext-unique}
 use Rattle.edge_words.specs.Reading.{Spells}
 use Rattle.edge_words.specs.Stable.{IsStable}

@@ -1,14 +1,14 @@
 -- What a reader of lines finds decides what the input of `word` is.
-use Rattle.std.proofs.Common.{◌≡◌, ◌≢◌, ◌⊎◌, ℕ, Bor, Result, IfOk, List, [], ◌∷◌, ◌++◌, replicate, Bool, true, false, Option, Some, None, Ok, Err, refl, sym, subst, ◌∙◌, ap, inl, inr, length, length-append, arith}
-use Rattle.std.proofs.lemmas.List.Elements.{All-replicate}
-use Rattle.mcb_ends.specs.Lines.{Next, Text, TooLong, CutShort, End, IsNext, IsShortLine, HasNoNewline, newline, is_text, next_of}
+use Rattle.std.proofs.Common.{◌≡◌, ◌≢◌, ◌⊎◌, ℕ, Bor, Result, IfOk, List, [], ◌∷◌, ◌++◌, false, Option, Some, None, Ok, Err, refl, sym, subst, ap, inl, inr, length, length-append, arith}
+use Rattle.mcb_ends.specs.Lines.{Next, Text, TooLong, CutShort, End, IsNext, IsShortLine, newline, next_of}
 use Rattle.mcb_ends.specs.declared.failed.Failed.{Failed}
 use Rattle.mcb_ends.specs.declared.line.Line.{Line}
 use Rattle.mcb_ends.specs.declared.line.Line.TheVariants as line
-use Rattle.mcb_ends.specs.Reader.{Reader, bytes_before, Takes, IsLine, HandsOut}
+use Rattle.mcb_ends.specs.Reader.{Reader, bytes_before, Takes, HandsOut}
 use Rattle.edge_words.specs.Reading.{Spells, Reads}
 use Rattle.edge_words.specs.declared.fault.WordFault.{WordFault}
 use Rattle.edge_words.proofs.OneWay.{reads_one_way}
+use Rattle.covering_file.proofs.DueLines.{stands_next}
 use Rattle.covering_file.specs.Input.{MayBe}
 use Rattle.billiards_cli.specs.WordInput.{Offends}
 use Rattle.covering_file.specs.HeaderOffence.{SpellsWord}
@@ -23,45 +23,10 @@ pub bytes_before-new : (reader : Reader) (left : Option (List ℕ)) → reader.h
 bytes_before-new reader None held reading = rw reading
 bytes_before-new reader (Some bytes) held reading = rw (reading, held)
 
--- bytes in which this stands next, and nothing behind it
-abbrev example : Next → List ℕ
-example (Text line) = line ++ newline ∷ []
-example TooLong = replicate 81 0
-example CutShort = 0 ∷ []
-example End = []
-
-no_newline : (n : ℕ) → HasNoNewline (replicate n 0)
-no_newline n = All-replicate (λ byte. byte ≢ newline) n 0 (λ e. omega (arith, e))
-
-IsNext-example : (next : Next) → IsLine next → IsNext (example next) next []
-IsNext-example (Text line) form = (form, refl)
-IsNext-example TooLong form = (omega arith, no_newline 81, refl)
-IsNext-example CutShort form = (omega arith, record { one = no_newline 1; short = omega arith }, refl)
-IsNext-example End form = (refl, refl)
-
--- the input of which this stands first, where no line is told behind it
-first_of : (before after : Option (List ℕ)) (next : Next) → IsLine next → Takes before next after → is_text next ≡ false → (bytes : List ℕ) × MayBe before bytes × IsNext bytes next []
-first_of None after next form takes ends = (example next, tt, IsNext-example next form)
-first_of (Some bytes) None next form takes ends = absurd takes
-first_of (Some bytes) (Some rest) (Text line) form takes ends = absurd (cc)
-first_of (Some bytes) (Some rest) TooLong form takes ends = (bytes, refl, (takes.0, takes.1, refl))
-first_of (Some bytes) (Some rest) CutShort form takes ends = (bytes, refl, (takes.0, takes.1, refl))
-first_of (Some bytes) (Some rest) End form takes ends = (bytes, refl, (takes.0, refl))
-
 pub judged_too_long : (old new : Reader) (left left' : Option (List ℕ)) → old.held ≡ [] → old.is_done ≡ false → HandsOut old new left left' TooLong → IsJudged left (Refused 1 reason.TooLong)
 judged_too_long old new left left' held reading hands =
-    let first = first_of left (bytes_before new left') TooLong hands.form (subst (λ (before : Option (List ℕ)). Takes before TooLong (bytes_before new left')) (bytes_before-new old left held reading) hands.bytes) refl in
+    let first = stands_next left (bytes_before new left') TooLong hands.form (subst (λ (before : Option (List ℕ)). Takes before TooLong (bytes_before new left')) (bytes_before-new old left held reading) hands.bytes) refl in
     (first.0, first.1, (refl, first.2))
-
-pub judged_cut_short : (old new : Reader) (left left' : Option (List ℕ)) → old.held ≡ [] → old.is_done ≡ false → HandsOut old new left left' CutShort → IsJudged left (Refused 1 reason.Ends)
-judged_cut_short old new left left' held reading hands =
-    let first = first_of left (bytes_before new left') CutShort hands.form (subst (λ (before : Option (List ℕ)). Takes before CutShort (bytes_before new left')) (bytes_before-new old left held reading) hands.bytes) refl in
-    (first.0, first.1, (refl, inl first.2))
-
-pub judged_empty : (old new : Reader) (left left' : Option (List ℕ)) → old.held ≡ [] → old.is_done ≡ false → HandsOut old new left left' End → IsJudged left (Refused 1 reason.Ends)
-judged_empty old new left left' held reading hands =
-    let first = first_of left (bytes_before new left') End hands.form (subst (λ (before : Option (List ℕ)). Takes before End (bytes_before new left')) (bytes_before-new old left held reading) hands.bytes) refl in
-    (first.0, first.1, (refl, inr first.2))
 
 -- a line that is refused spells no word
 pub not_spelled : (line : List ℕ) (fault : WordFault) → Reads line (Err fault) → ¬ (SpellsWord line)
@@ -101,12 +66,6 @@ judged_by_rest old new left left' line w (Refused number why) held reading hands
     let rest = judged.2 in
     let first = behind left (bytes_before new left') line hands.form (taken old new left left' line held reading hands) rest.0 rest.1 in
     (first.0, first.1, more_offends first.0 line rest.0 w number why judged.0 judged.1 first.2 spells rest.2)
-
--- where nothing stands behind the line, the input is whole
-pub rest_ends : (w : List ℕ) (before after : Option (List ℕ)) → Takes before End after → IsRestJudged w before (Whole w)
-rest_ends w None after takes = (refl, tt)
-rest_ends w (Some bytes) None takes = absurd takes
-rest_ends w (Some bytes) (Some rest) takes = (refl, takes.0)
 
 more_bytes : (before after : Option (List ℕ)) (next : Next) → Takes before next after → next ≢ End → (bytes : List ℕ) × MayBe before bytes × (bytes ≢ [])
 more_bytes None after next takes other = (0 ∷ [], tt, λ e. cc)

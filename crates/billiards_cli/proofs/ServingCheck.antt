@@ -1,5 +1,5 @@
 -- What the parts of the command `check` leave makes up what is said of the whole.
-use Rattle.std.proofs.Common.{◌≡◌, ℕ, List, [], Option, refl}
+use Rattle.std.proofs.Common.{◌≡◌, ℕ, List, Option, refl}
 use Rattle.std.specs.Io.KnownBytes.{Appends}
 use Rattle.mcb_ends.specs.Bytes.{AppendsPrefix}
 use Rattle.mcb_ends.specs.Causes.{Rose}
@@ -12,7 +12,6 @@ use Rattle.billiards_cli.specs.Answers.{greatest_tree, refusal_status, IsCheckAn
 use Rattle.billiards_cli.specs.Requests.{Check}
 use Rattle.billiards_cli.specs.Services.{Serves}
 use Rattle.billiards_cli.specs.Texts.{accepted_text, refused_text}
-use Rattle.billiards_cli.specs.declared.status.Status.{Status}
 use Rattle.billiards_cli.specs.declared.status.Status.TheVariants as status
 use Rattle.billiards_cli.proofs.Judging.{some_rest}
 

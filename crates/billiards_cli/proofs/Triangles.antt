@@ -1,5 +1,5 @@
 -- Triangles whose angles stand over one denominator.
-use Rattle.std.proofs.Common.{◌≡◌, ℕ, ◌+◌, ◌*◌, ◌<◌, ◌≤◌, pos, ◌+ℤ◌, ◌*ℤ◌, ◌<ℤ◌, subst, sym, arith, mul-pos}
+use Rattle.std.proofs.Common.{ℕ, ◌+◌, ◌*◌, ◌<◌, pos, ◌+ℤ◌, ◌*ℤ◌, ◌<ℤ◌, subst, sym, arith, mul-pos}
 use Rattle.std.proofs.Math.Nat.{mul-lt-mul_of_pos_right}
 use Rattle.std.proofs.lemmas.Int.{ints}
 use Rattle.rat_core.specs.Fraction.{ℚ, ◌÷◌, whole, ◌+ℚ◌, ◌<ℚ◌}

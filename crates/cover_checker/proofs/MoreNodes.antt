@@ -1,5 +1,5 @@
 -- One node more, at the first box that is due.
-use Rattle.std.proofs.Common.{◌≡◌, ◌≢◌, ◌⊎◌, sym, ap, ◌∙◌, subst, ℕ, ◌+◌, ◌<◌, ◌≤◌, false, List, [], ◌∷◌, ◌++◌, map, length, fold, take, Option, Some, inl, inr, arith, length-append}
+use Rattle.std.proofs.Common.{◌≡◌, ◌≢◌, ◌⊎◌, sym, ap, ◌∙◌, subst, ℕ, ◌<◌, ◌≤◌, false, List, [], ◌∷◌, ◌++◌, map, length, fold, take, Option, Some, inl, inr, arith, length-append}
 use Rattle.std.proofs.Math.Seq.{take-append_seam}
 use Rattle.std.proofs.lemmas.Bool.{cases_lt}
 use Rattle.std.proofs.lemmas.List.{map-append, take-append-le, append-nil}
@@ -80,9 +80,6 @@ none_passes limit h heading = record {
 
 pub lines_more : (nodes : List Node) (n : Node) → map node_line (nodes ++ n ∷ []) ≡ map node_line nodes ++ node_line n ∷ []
 lines_more nodes n = map-append node_line nodes (n ∷ [])
-
-pub tree_count : (h : Heading) (nodes : List Node) (number : ℕ) → number ≡ length (header_lines Cover h) + length (map node_line nodes) → number ≡ length (tree_lines h nodes)
-tree_count h nodes number is = is ∙ sym (length-append (header_lines Cover h) (map node_line nodes))
 
 -- ---- what a reader took
 

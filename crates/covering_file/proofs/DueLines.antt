@@ -85,7 +85,7 @@ IsNext-example TooLong form = (omega arith, no_newline 81, refl)
 IsNext-example CutShort form = (omega arith, record { one = no_newline 1; short = omega arith }, refl)
 IsNext-example End form = (refl, refl)
 
-stands_next : (before after : Option (List ℕ)) (next : Next) → IsLine next → Takes before next after → is_text next ≡ false → (bytes : List ℕ) × MayBe before bytes × IsNext bytes next []
+pub stands_next : (before after : Option (List ℕ)) (next : Next) → IsLine next → Takes before next after → is_text next ≡ false → (bytes : List ℕ) × MayBe before bytes × IsNext bytes next []
 stands_next None after next form takes ends = (example next, tt, IsNext-example next form)
 stands_next (Some bytes) None next form takes ends = absurd takes
 stands_next (Some bytes) (Some rest) (Text line) form takes ends = absurd (cc)

@@ -14,10 +14,6 @@ named_fields : (line name field : List ℕ) (n : ℕ) → n < 2 ^ 64 → IsTwoFi
 named_fields line name field n small fields is =
     (fields_are_one line name field name (decimal n) fields (record { is = is; first_field = fields.first_field; second_field = decimal_without space n (omega arith) small })).1
 
--- the number that was read is the one of the line
-pub number_read : (line name field : List ℕ) (n : ℕ) → IsTwoFields line name field → field ≡ decimal n → line ≡ named_line name n
-number_read line name field n fields is = fields.is ∙ ap (two_fields name) is
-
 -- two names that were compared
 pub same_name : (name other : List ℕ) (differ : Bool) → differ ≡ not (bytes_eq other name) → differ ≡ false → other ≡ name
 same_name name other differ is alike = (bytes_eq-Decides other name).0 (not_false (bytes_eq other name) (sym is ∙ alike))

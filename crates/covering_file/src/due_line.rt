@@ -1,7 +1,5 @@
 //! One step of a reader: the line that is due.
-ghost use Rattle.std.specs.Prelude.{◌≡◌, ℕ, ◌+◌, ◌^◌, ◌<◌, false, IfOk, IfErr};
-ghost use Rattle.std.specs.Io.KnownBytes.{IsAtEnd};
-ghost use Rattle.mcb_ends.specs.Reader.{bytes_before};
+ghost use Rattle.std.specs.Prelude.{◌≡◌, ◌≢◌, ◌+◌, ◌^◌, ◌<◌, false, IfErr};
 ghost use Rattle.covering_file.specs.Faults.{HasHeadCause};
 ghost use Rattle.covering_file.specs.Taking.{ReadsDue, Ends, StopsBehind};
 
@@ -9,7 +7,7 @@ use crate::form::Form;
 use crate::{HeadFault, Reason};
 use mcb_ends::{Line, LineReader, Source};
 
-/// Takes the due line, and reads it by its form.
+/// Takes the due line, and reads it by its form. It takes no memory.
 pub fn take<S: Source, F: Form>(
     form: &F,
     lines: &mut LineReader,
@@ -20,6 +18,7 @@ pub fn take<S: Source, F: Form>(
     ensures due { ReadsDue (F.reads form.now) lines.old lines.new (S.left src.old) (S.left src.new) result }
     ensures stops { StopsBehind (lines.old.number + 1) lines.old (S.left src.old) (S.left src.new) }
     ensures cause { HasHeadCause (S.faults src.old) (S.faults src.new) result }
+    ensures no_memory { IfErr result (λ fault. fault ≢ HeadFault.Memory) }
 {
     let line = lines.number() + 1;
     match lines.next(src)? {
@@ -38,13 +37,15 @@ pub fn take<S: Source, F: Form>(
     }
 }
 
-/// Takes the end of the input, or refuses what stands there as something behind the end line.
+/// Takes the end of the input, or refuses what stands there as something behind the end line. It takes no
+/// memory.
 pub fn end_of_input<S: Source>(lines: &mut LineReader, src: &mut S) -> Result<(), HeadFault>
     requires few { lines.old.number + 1 < 2 ^ 32 }
     requires reading { lines.old.is_done ≡ false }
     ensures ends { Ends lines.old (S.left src.old) (S.left src.new) result }
     ensures stops { StopsBehind (lines.old.number + 1) lines.old (S.left src.old) (S.left src.new) }
     ensures cause { HasHeadCause (S.faults src.old) (S.faults src.new) result }
+    ensures no_memory { IfErr result (λ fault. fault ≢ HeadFault.Memory) }
 {
     let line = lines.number() + 1;
     match lines.next(src)? {

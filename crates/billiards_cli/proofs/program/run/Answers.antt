@@ -1,6 +1,6 @@
 use Rattle.std.proofs.Common.{◌≡◌, Some, sym, ap, ◌∙◌}
 use Rattle.billiards_cli.specs.Commands.{request_for}
-use Rattle.billiards_cli.specs.Requests.{Request, request_of, Word, Check, At}
+use Rattle.billiards_cli.specs.Requests.{request_of, Word, Check, At}
 use Rattle.billiards_cli.specs.declared.command.Command.{Command}
 use Rattle.billiards_cli.proofs.Deciding.{decided_if_asked}
 use Rattle.billiards_cli.proofs.program.run.Goals as goal

@@ -1,4 +1,4 @@
-use Rattle.std.proofs.Common.{◌≡◌, List, ◌++◌, length, subst, codes}
+use Rattle.std.proofs.Common.{List, ◌++◌, length, subst, codes}
 use Rattle.exp_sums.specs.FormalPoint.{terms}
 use Rattle.exp_sums.specs.declared.terms.Term.{Term}
 use Rattle.std.specs.Io.KnownBytes.{Appends}

@@ -1,5 +1,5 @@
-use Rattle.std.proofs.Common.{◌<◌, sym, subst, subst₂, arith}
-use Rattle.rat_core.specs.Fraction.{ℚ, whole, ◌+ℚ◌, ◌<ℚ◌}
+use Rattle.std.proofs.Common.{sym, subst, subst₂, arith}
+use Rattle.rat_core.specs.Fraction.{whole, ◌+ℚ◌, ◌<ℚ◌}
 use Rattle.rat_core.specs.Written.{Written, value}
 use Rattle.rat_core.proofs.Order.{over_positive}
 use Rattle.gradient_bounds.specs.Corridor.{HasCorridor}

@@ -1,4 +1,4 @@
-use Rattle.std.proofs.Common.{◌≡◌, List, ℕ, refl, sym, subst}
+use Rattle.std.proofs.Common.{List, ℕ, refl, sym, subst}
 use Rattle.edge_words.specs.Stable.{IsStable}
 use Rattle.billiards_cli.specs.Verdicts.{AnswersWord, WritesShift}
 use Rattle.billiards_cli.specs.declared.status.Status.{Status}

@@ -1,4 +1,3 @@
-use Rattle.std.proofs.Common.{◌≡◌}
 use Rattle.billiards_cli.proofs.Serving.{served_by_answer, served_by_failed_refusal, IsWord-judged}
 use Rattle.billiards_cli.proofs.commands.word.word.Goals as goal
 
