@@ -1,7 +1,7 @@
 -- The input of `word` decides the status, where nothing outside fails.
 use Rattle.std.proofs.Common.{◌≡◌, ◌≢◌, ℕ, List, [], Option, Some, IfSome, refl, sym, subst, ◌∙◌, inl, inr, ⊎_elim, arith}
 use Rattle.mcb_ends.specs.Causes.{Rose}
-use Rattle.mcb_ends.specs.Lines.{Text, TooLong, CutShort, End}
+use Rattle.mcb_ends.specs.Lines.{Text}
 use Rattle.mcb_ends.proofs.OneNext.{IsNext-unique}
 use Rattle.edge_words.specs.Reading.{Spells}
 use Rattle.edge_words.specs.Stable.{IsStable}
@@ -10,6 +10,7 @@ use Rattle.gradient_bounds.specs.Clear.{IsClearAtPoint, slack}
 use Rattle.billiards_cli.specs.Answers.{greatest_tree, over}
 use Rattle.covering_file.specs.Input.{MayBe}
 use Rattle.covering_file.specs.Verdicts.{IsRefused, IsSureFile}
+use Rattle.covering_file.proofs.FrontLines.{line_is_one, not_too_long, not_early}
 use Rattle.covering_file.proofs.Sure.{sure_is_not_refused}
 use Rattle.billiards_cli.specs.Requests.{Request, Word, Check, At}
 use Rattle.billiards_cli.specs.WordInput.{IsWordLine, Offends}
@@ -25,15 +26,11 @@ not_risen before now stands rose = omega (arith, stands.0, stands.1, rose)
 
 -- a line that is a word, with nothing behind it, does not offend
 word_line_is_fine : (bytes w : List ℕ) (number : ℕ) (why : Reason) → IsWordLine bytes w → Offends bytes number why → ⊥
-word_line_is_fine bytes w number reason.TooLong line offends =
-    let same = (IsNext-unique bytes (Text line.0) TooLong [] [] line.1 offends.1).0 in cc
-word_line_is_fine bytes w number reason.Ends line offends =
-    ⊎_elim (λ cut. let same = (IsNext-unique bytes (Text line.0) CutShort [] [] line.1 cut).0 in cc)
-    (λ end. let same = (IsNext-unique bytes (Text line.0) End [] [] line.1 end).0 in cc) offends.1
+word_line_is_fine bytes w number reason.TooLong line offends = not_too_long bytes line.0 ([], line.1) offends.1
+word_line_is_fine bytes w number reason.Ends line offends = not_early bytes line.0 ([], line.1) offends.2
 word_line_is_fine bytes w number reason.NotAWord line offends =
     let other = offends.1 in
-    let same : line.0 ≡ other.0 = let both = (IsNext-unique bytes (Text line.0) (Text other.0) [] other.1 line.1 other.2).0 in cc in
-    other.3 (subst (λ (x : List ℕ). SpellsWord x) same (w, line.2))
+    other.2 (subst (λ (x : List ℕ). SpellsWord x) (line_is_one bytes line.0 other.0 ([], line.1) other.1) (w, line.2))
 word_line_is_fine bytes w number reason.EndLine line offends =
     let other = offends.1 in
     other.4 (sym (IsNext-unique bytes (Text line.0) (Text other.0) [] other.1 line.1 other.2).1)

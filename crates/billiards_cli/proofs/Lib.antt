@@ -3,4 +3,3 @@ pub mod Serving
 pub mod ServingCheck
 pub mod Deciding
 pub mod Numbers
-pub mod Triangles

@@ -1,48 +1,46 @@
--- What the parts of the command `word` leave makes up what is said of the whole.
+-- What the parts of a command leave makes up what is said of the whole.
 use Rattle.std.proofs.Common.{◌≡◌, ℕ, List, Option, Result, Ok, Err, refl, inl, inr}
-use Rattle.std.specs.Io.KnownBytes.{IsAtEnd}
 use Rattle.mcb_ends.specs.Bytes.{AppendsPrefix, Writes}
 use Rattle.mcb_ends.specs.Causes.{Rose, HasCause}
 use Rattle.edge_words.specs.Stable.{IsStable}
 use Rattle.edge_words.specs.Word.{IsWord}
 use Rattle.unfolding.specs.Shift.{HasShift}
 use Rattle.unfolding.proofs.Shifts.{stable_from_shift}
-use Rattle.billiards_cli.specs.Answers.{IsWordText, IsAtAnswer}
-use Rattle.billiards_cli.specs.Requests.{Word, At}
-use Rattle.billiards_cli.specs.Texts.{shift_text, unstable_text, refused_text, argument_text}
+use Rattle.billiards_cli.specs.Answers.{IsWordText, IsAtAnswer, IsAnswer}
+use Rattle.billiards_cli.specs.Requests.{Request, Word}
+use Rattle.billiards_cli.specs.Texts.{shift_text, unstable_text, argument_text}
 use Rattle.billiards_cli.specs.AtVerdicts.{IsRefusable}
 use Rattle.covering_file.specs.declared.reason.Reason.{Reason}
 use Rattle.covering_file.specs.declared.reason.Reason.TheVariants as reason
 use Rattle.billiards_cli.specs.Services.{Serves}
-use Rattle.billiards_cli.specs.Verdicts.{IsJudged, AnswersWord, WritesShift, status_after}
-use Rattle.billiards_cli.specs.declared.commands.word.Verdict.TheVariants.{Whole, Refused}
+use Rattle.billiards_cli.specs.Verdicts.{IsWhole, AnswersWord, WritesShift, status_after}
 use Rattle.billiards_cli.specs.declared.status.Status.{Status}
 use Rattle.billiards_cli.specs.declared.status.Status.TheVariants.{Done, NotShown, Usage, Malformed, ReadFault, WriteFault, OutOfMemory, Full}
 
 -- a whole input, and the answer to its word
 pub served_by_answer : (left left' : Option (List ℕ)) (source source' : ℕ) (written written' : Option (List ℕ)) (sink sink' : ℕ) (status : Status) (w : List ℕ)
-    → IsJudged left (Whole w) → IsAtEnd left' → source' ≡ source → AnswersWord w status written written' sink sink'
+    → IsWhole left left' w → source' ≡ source → AnswersWord w status written written' sink sink'
     → Serves Word left left' source source' written written' sink sink' status
-served_by_answer left left' source source' written written' sink sink' Done w judged at_end stood answer =
+served_by_answer left left' source source' written written' sink sink' Done w whole stood answer =
     let text = answer.0 in
-    record { text = (text.0, (judged.0, judged.1, (w, judged.2, text.1)), text.2); counts = (stood, answer.1); end = at_end }
-served_by_answer left left' source source' written written' sink sink' WriteFault w judged at_end stood answer =
+    record { text = (text.0, (whole.bytes, whole.input, (w, whole.line, text.1)), text.2); counts = (stood, answer.1); end = whole.end }
+served_by_answer left left' source source' written written' sink sink' WriteFault w whole stood answer =
     let text = answer.0 in
-    record { text = (Done, text.0, (judged.0, judged.1, (w, judged.2, text.1)), text.2); counts = (stood, answer.1); end = tt }
-served_by_answer left left' source source' written written' sink sink' OutOfMemory w judged at_end stood answer =
-    record { text = ((judged.0, judged.1, (w, judged.2, answer.0, refl)), answer.1); counts = (stood, answer.2); end = tt }
-served_by_answer left left' source source' written written' sink sink' NotShown w judged at_end stood answer = absurd answer
-served_by_answer left left' source source' written written' sink sink' Usage w judged at_end stood answer = absurd answer
-served_by_answer left left' source source' written written' sink sink' Malformed w judged at_end stood answer = absurd answer
-served_by_answer left left' source source' written written' sink sink' ReadFault w judged at_end stood answer = absurd answer
-served_by_answer left left' source source' written written' sink sink' Full w judged at_end stood answer = absurd answer
+    record { text = (Done, text.0, (whole.bytes, whole.input, (w, whole.line, text.1)), text.2); counts = (stood, answer.1); end = tt }
+served_by_answer left left' source source' written written' sink sink' OutOfMemory w whole stood answer =
+    record { text = ((whole.bytes, whole.input, (w, whole.line, answer.0, refl)), answer.1); counts = (stood, answer.2); end = tt }
+served_by_answer left left' source source' written written' sink sink' NotShown w whole stood answer = absurd answer
+served_by_answer left left' source source' written written' sink sink' Usage w whole stood answer = absurd answer
+served_by_answer left left' source source' written written' sink sink' Malformed w whole stood answer = absurd answer
+served_by_answer left left' source source' written written' sink sink' ReadFault w whole stood answer = absurd answer
+served_by_answer left left' source source' written written' sink sink' Full w whole stood answer = absurd answer
 
--- a refusal that could not be written whole
-pub served_by_failed_refusal : (left left' : Option (List ℕ)) (source source' : ℕ) (written written' : Option (List ℕ)) (sink sink' number : ℕ) (why : Reason)
-    → IsJudged left (Refused number why) → source' ≡ source → AppendsPrefix written written' (refused_text number why) → Rose sink sink'
-    → Serves Word left left' source source' written written' sink sink' WriteFault
-served_by_failed_refusal left left' source source' written written' sink sink' number why judged stood begun rose =
-    record { text = (Malformed, refused_text number why, (judged.0, judged.1, (number, why, judged.2, refl)), begun); counts = (stood, rose); end = tt }
+-- an answer that could not be written whole
+pub served_by_failed_write : (request : Request) (left left' : Option (List ℕ)) (source source' : ℕ) (written written' : Option (List ℕ)) (sink sink' : ℕ) (status : Status) (text : List ℕ)
+    → IsAnswer request left status text → source' ≡ source → AppendsPrefix written written' text → Rose sink sink'
+    → Serves request left left' source source' written written' sink sink' WriteFault
+served_by_failed_write request left left' source source' written written' sink sink' status text right stood begun rose =
+    record { text = (status, text, right, begun); counts = (stood, rose); end = tt }
 
 has_no_shift : (w : List ℕ) → IsWord w → ¬ (IsStable w) → ¬ (HasShift w)
 has_no_shift w word unstable shift = unstable (stable_from_shift w word.letters word.even_length.even shift)
@@ -62,16 +60,6 @@ pub answered_shift : {T E : Type 0} (w : List ℕ) (old new : Option (List ℕ))
     → WritesShift w old new result → HasCause faults faults' result → AnswersWord w (status_after result) old new faults faults'
 answered_shift w old new faults faults' result writes cause =
     answered w (shift_text writes.0) old new faults faults' result (inl (writes.0, writes.1, refl)) writes.2 cause
-
--- a whole input is a word
-pub IsWord-judged : (left : Option (List ℕ)) (w : List ℕ) → IsJudged left (Whole w) → IsWord w
-IsWord-judged left w judged = judged.2.2.is_word
-
--- an answer of `at` that was written, or could not be written whole
-pub served_at_open : (word : List ℕ) (p q d : ℕ) (left : Option (List ℕ)) (source : ℕ) (old new : Option (List ℕ)) (faults faults' : ℕ) (text : List ℕ) (status : Status)
-    → IsAtAnswer word p q d status text → AppendsPrefix old new text → Rose faults faults' → Serves (At word p q d) left left source source old new faults faults' WriteFault
-served_at_open word p q d left source old new faults faults' text status right begun rose =
-    record { text = (status, text, right, begun); counts = (refl, rose); end = tt }
 
 -- a refused argument has the text of its reason
 pub refused_at : (word : List ℕ) (p q d : ℕ) (reason : Reason) → IsRefusable word reason → IsAtAnswer word p q d Malformed (argument_text reason)

@@ -1,17 +1,15 @@
 -- What the parts of the command `check` leave makes up what is said of the whole.
 use Rattle.std.proofs.Common.{◌≡◌, ℕ, List, Option, refl}
 use Rattle.std.specs.Io.KnownBytes.{Appends}
-use Rattle.mcb_ends.specs.Bytes.{AppendsPrefix}
-use Rattle.mcb_ends.specs.Causes.{Rose}
 use Rattle.covering_file.specs.declared.reason.Reason.{Reason}
 use Rattle.covering_file.specs.declared.reason.Reason.TheVariants.{NotApart, NotShown, Uncovered}
 use Rattle.covering_file.specs.Verdicts.{IsRefused}
 use Rattle.cover_checker.specs.Verdicts.{IsRightOf}
-use Rattle.cover_checker.specs.declared.verdict.Verdict.TheVariants.{Accepted, Refused}
+use Rattle.cover_checker.specs.declared.verdict.Verdict.TheVariants.{Refused}
 use Rattle.billiards_cli.specs.Answers.{greatest_tree, refusal_status, IsCheckAnswer}
 use Rattle.billiards_cli.specs.Requests.{Check}
 use Rattle.billiards_cli.specs.Services.{Serves}
-use Rattle.billiards_cli.specs.Texts.{accepted_text, refused_text}
+use Rattle.billiards_cli.specs.Texts.{refused_text}
 use Rattle.billiards_cli.specs.declared.status.Status.TheVariants as status
 use Rattle.billiards_cli.proofs.Judging.{some_rest}
 
@@ -20,22 +18,12 @@ check_wants_memory left left' source source' written sink stood =
     let bytes = some_rest left in
     record { text = ((bytes.0, bytes.1, refl), refl); counts = (stood, refl); end = tt }
 
-pub acceptance_begun : (nodes words : ℕ) (left left' : Option (List ℕ)) (source source' : ℕ) (written written' : Option (List ℕ)) (sink sink' : ℕ) → IsRightOf greatest_tree left (Accepted nodes words) → source' ≡ source
-    → AppendsPrefix written written' (accepted_text nodes words) → Rose sink sink' → Serves Check left left' source source' written written' sink sink' status.WriteFault
-acceptance_begun nodes words left left' source source' written written' sink sink' right stood begun rose =
-    record { text = (status.Done, accepted_text nodes words, (right.0, right.1, (nodes, words, right.2, refl)), begun); counts = (stood, rose); end = tt }
-
 -- a refusal's text goes with its status
-refusal_answer : (input : List ℕ) (line : ℕ) (why : Reason) → IsRefused greatest_tree line why input → IsCheckAnswer input (refusal_status why) (refused_text line why)
+pub refusal_answer : (input : List ℕ) (line : ℕ) (why : Reason) → IsRefused greatest_tree line why input → IsCheckAnswer input (refusal_status why) (refused_text line why)
 refusal_answer input line NotApart refused = (line, NotApart, refused, refl, refl)
 refusal_answer input line NotShown refused = (line, NotShown, refused, refl, refl)
 refusal_answer input line Uncovered refused = (line, Uncovered, refused, refl, refl)
 refusal_answer input line why refused = (line, why, refused, refl, refl)
-
-pub refusal_begun : (line : ℕ) (why : Reason) (left left' : Option (List ℕ)) (source source' : ℕ) (written written' : Option (List ℕ)) (sink sink' : ℕ) → IsRightOf greatest_tree left (Refused line why) → source' ≡ source
-    → AppendsPrefix written written' (refused_text line why) → Rose sink sink' → Serves Check left left' source source' written written' sink sink' status.WriteFault
-refusal_begun line why left left' source source' written written' sink sink' right stood begun rose =
-    record { text = (refusal_status why, refused_text line why, (right.0, right.1, refusal_answer right.0 line why right.2), begun); counts = (stood, rose); end = tt }
 
 pub refusal_written : (line : ℕ) (why : Reason) (left left' : Option (List ℕ)) (source source' : ℕ) (written written' : Option (List ℕ)) (sink sink' : ℕ) → IsRightOf greatest_tree left (Refused line why) → source' ≡ source
     → Appends written written' (refused_text line why) → sink' ≡ sink → Serves Check left left' source source' written written' sink sink' (refusal_status why)

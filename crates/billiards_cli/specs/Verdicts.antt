@@ -1,10 +1,11 @@
 -- What the command `word` judges of its input.
-use Rattle.std.specs.Prelude.{◌≡◌, ◌≢◌, ℕ, List, [], ⊤, Ok, Err}
+use Rattle.std.specs.Prelude.{◌≡◌, ℕ, List, ⊤, Ok, Err}
 use Rattle.std.specs.declared.option.Option.{Option}
 use Rattle.std.specs.declared.result.Result.{Result}
-use Rattle.std.specs.Io.KnownBytes.{Appends}
+use Rattle.std.specs.Io.KnownBytes.{Appends, IsAtEnd}
 use Rattle.mcb_ends.specs.Bytes.{AppendsPrefix, Writes}
 use Rattle.mcb_ends.specs.Causes.{Rose}
+use Rattle.edge_words.specs.Reading.{Spells}
 use Rattle.edge_words.specs.Stable.{IsStable}
 use Rattle.exp_sums.specs.FormalPoint.{FormalPoint}
 use Rattle.unfolding.specs.Shift.{IsShift}
@@ -12,28 +13,32 @@ use Rattle.billiards_cli.specs.Answers.{IsWordText}
 use Rattle.covering_file.specs.Input.{MayBe}
 use Rattle.billiards_cli.specs.Texts.{shift_text}
 use Rattle.billiards_cli.specs.WordInput.{IsWordLine, Offends}
-use Rattle.covering_file.specs.declared.reason.Reason.TheVariants.{EndLine}
+use Rattle.covering_file.specs.declared.fault.HeadFault.{HeadFault}
+use Rattle.covering_file.specs.declared.fault.HeadFault.TheVariants.{Line, Read, Memory}
+use Rattle.covering_file.specs.declared.reason.Reason.{Reason}
+use Rattle.covering_file.specs.declared.reason.Reason.TheVariants.{NotAWord}
+use Rattle.covering_file.specs.HeaderOffence.{SpellsWord}
 use Rattle.billiards_cli.specs.declared.status.Status.{Status}
 use Rattle.billiards_cli.specs.declared.status.Status.TheVariants.{Done, WriteFault, OutOfMemory}
-use Rattle.billiards_cli.specs.declared.commands.word.Verdict.{Verdict}
-use Rattle.billiards_cli.specs.declared.commands.word.Verdict.TheVariants.{Whole, Refused}
 
-abbrev pub IsRight : List ℕ → Verdict → Type 0
-IsRight input (Whole w) = IsWordLine input w
-IsRight input (Refused line reason) = Offends input line reason
+-- what the line of the input is read as
+abbrev pub ReadsAnyWord : List ℕ → Result (List ℕ) Reason → Type 0
+ReadsAnyWord line (Ok w) = Spells line w
+ReadsAnyWord line (Err NotAWord) = ¬ (SpellsWord line)
+ReadsAnyWord line (Err reason) = ⊥
 
--- right of the bytes that the source has left, or of some where it does not tell them
-abbrev pub IsJudged : Option (List ℕ) → Verdict → Type 0
-IsJudged left verdict = (bytes : List ℕ) × MayBe left bytes × IsRight bytes verdict
+-- The input is one line that spells w, of the bytes that the source has left, or of some where it does not tell them. It is read to its end.
+pub record IsWhole (left left' : Option (List ℕ)) (w : List ℕ) : Type 0 where
+  pub bytes : List ℕ
+  pub input : MayBe left bytes
+  pub line : IsWordLine bytes w
+  pub end : IsAtEnd left'
 
-abbrev pub IsWhole : Verdict → Type 0
-IsWhole (Whole w) = ⊤
-IsWhole (Refused line reason) = ⊥
-
--- what stands behind a line that spells w decides
-abbrev pub IsRestJudged : List ℕ → Option (List ℕ) → Verdict → Type 0
-IsRestJudged w rest (Whole v) = (v ≡ w) × MayBe rest []
-IsRestJudged w rest (Refused line reason) = (line ≡ 2) × (reason ≡ EndLine) × ((bytes : List ℕ) × MayBe rest bytes × (bytes ≢ []))
+-- A refused line is the first that offends. Memory is not wanting.
+abbrev pub IsRefusedBy : Option (List ℕ) → HeadFault → Type 0
+IsRefusedBy left (Line line reason) = (bytes : List ℕ) × MayBe left bytes × Offends bytes line reason
+IsRefusedBy left Read = ⊤
+IsRefusedBy left Memory = ⊥
 
 -- A status that answers a word, the sink's bytes before and after, and its faults.
 abbrev pub AnswersWord : List ℕ → Status → Option (List ℕ) → Option (List ℕ) → ℕ → ℕ → Type 0

@@ -22,6 +22,13 @@ const END: &str = "end complete\n";
 
 const FILE: [&str; 7] = [GRID, TRIANGLE, WORD, DEPTH, FIRST_NODES, LAST_NODES, END];
 
+// The longest line, and one byte more.
+const ONES_80: &str =
+    "11111111111111111111111111111111111111111111111111111111111111111111111111111111";
+
+const ONES_81: &str =
+    "111111111111111111111111111111111111111111111111111111111111111111111111111111111";
+
 const ACCEPTED: &str = "accepted nodes=29 words=1\n";
 
 // In place of the last nodes: the square (5, 5) of level 4 is shown whole.
@@ -70,139 +77,72 @@ fn assert_judged(
     assert_answer(rt, &words, file.as_bytes(), status, text)
 }
 
-// A line of the file replaced by another text.
+// The file with another text in this line is refused at it.
+fn assert_refused(
+    rt: &(impl Abort + Alloc<A = Global>),
+    number: u32,
+    line: &str,
+    reason: u32,
+) -> Result<(), AllocError> {
+    let file = with_line(rt.alloc(), number, line)?;
+    let text = format!(in rt.alloc(); "refused line={number} reason={reason}\n")?;
+    assert_judged(rt, file.as_str(), Status::Malformed, text.as_str())
+}
+
+// A line of the file replaced by another text. It is refused itself, for the reason with this number.
 #[test]
 fn check_names_the_line_that_is_wrong(rt: HostRuntime) -> Result<(), Fail> {
     let rows = [
-        (
-            1,
-            "mcbcover 01",
-            Status::Malformed,
-            "refused line=1 reason=3\n",
-        ),
-        (
-            2,
-            "grid  384",
-            Status::Malformed,
-            "refused line=2 reason=3\n",
-        ),
-        (
-            2,
-            "grid 384\r",
-            Status::Malformed,
-            "refused line=2 reason=4\n",
-        ),
-        (
-            2,
-            "grid 0384",
-            Status::Malformed,
-            "refused line=2 reason=4\n",
-        ),
-        (2, "grid 0", Status::Malformed, "refused line=2 reason=4\n"),
-        (
-            2,
-            "grid 1048577",
-            Status::Malformed,
-            "refused line=2 reason=4\n",
-        ),
-        (
-            3,
-            "polygon 2",
-            Status::Malformed,
-            "refused line=3 reason=4\n",
-        ),
-        (
-            3,
-            "polygon 17",
-            Status::Malformed,
-            "refused line=3 reason=4\n",
-        ),
-        (4, "127", Status::Malformed, "refused line=4 reason=3\n"),
-        (
-            4,
-            "127 127 ",
-            Status::Malformed,
-            "refused line=4 reason=3\n",
-        ),
-        (
-            4,
-            "127 0127",
-            Status::Malformed,
-            "refused line=4 reason=4\n",
-        ),
-        (
-            4,
-            "127 1048577",
-            Status::Malformed,
-            "refused line=4 reason=4\n",
-        ),
-        (4, "0 127", Status::Malformed, "refused line=4 reason=5\n"),
-        (4, "192 192", Status::Malformed, "refused line=4 reason=5\n"),
-        (7, "words 0", Status::Malformed, "refused line=7 reason=4\n"),
-        (
-            7,
-            "words 33",
-            Status::Malformed,
-            "refused line=7 reason=4\n",
-        ),
-        (
-            8,
-            "111111111111111111111111111111111111111111111111111111111111111111111111111111111",
-            Status::Malformed,
-            "refused line=8 reason=1\n",
-        ),
-        (
-            8,
-            "11111111111111111111111111111111111111111111111111111111111111111111111111111111",
-            Status::Malformed,
-            "refused line=8 reason=7\n",
-        ),
-        (8, "", Status::Malformed, "refused line=8 reason=7\n"),
-        (8, "121323", Status::Malformed, "refused line=8 reason=8\n"),
+        (1, "mcbcover 01", 3),
+        (2, "grid  384", 3),
+        (2, "grid 384\r", 4),
+        (2, "grid 0384", 4),
+        (2, "grid 0", 4),
+        (2, "grid 1048577", 4),
+        (3, "polygon 2", 4),
+        (3, "polygon 17", 4),
+        (4, "127", 3),
+        (4, "127 127 ", 3),
+        (4, "127 0127", 4),
+        (4, "127 1048577", 4),
+        (4, "0 127", 5),
+        (4, "192 192", 5),
+        (7, "words 0", 4),
+        (7, "words 33", 4),
+        (8, ONES_81, 1),
+        (8, ONES_80, 7),
+        (8, "", 7),
+        (8, "121323", 8),
+        (9, "depth 07", 4),
+        (9, "depth 21", 4),
+        (10, "S", 3),
+        (26, "w", 3),
+        (26, "w 0", 4),
+        (26, "w 2", 4),
+        (26, "s", 9),
+        (39, "end open 3", 13),
+        (39, "end  complete", 13),
+        (39, ONES_81, 1),
+    ];
+    for (number, line, reason) in rows {
+        assert_refused(&rt, number, line, reason)?;
+    }
+    Ok(())
+}
+
+// Another depth, and other nodes.
+#[test]
+fn check_names_the_box_that_is_wrong(rt: HostRuntime) -> Result<(), Fail> {
+    let rows = [
         (
             9,
             "depth 6",
             Status::Malformed,
             "refused line=25 reason=9\n",
         ),
-        (
-            9,
-            "depth 07",
-            Status::Malformed,
-            "refused line=9 reason=4\n",
-        ),
-        (
-            9,
-            "depth 21",
-            Status::Malformed,
-            "refused line=9 reason=4\n",
-        ),
-        (10, "S", Status::Malformed, "refused line=10 reason=3\n"),
         (12, "u", Status::NotShown, "refused line=12 reason=12\n"),
-        (26, "w", Status::Malformed, "refused line=26 reason=3\n"),
-        (26, "w 0", Status::Malformed, "refused line=26 reason=4\n"),
-        (26, "w 1", Status::Done, ACCEPTED),
-        (26, "w 2", Status::Malformed, "refused line=26 reason=4\n"),
-        (26, "s", Status::Malformed, "refused line=26 reason=9\n"),
         (26, "o", Status::NotShown, "refused line=26 reason=10\n"),
-        (
-            39,
-            "end open 3",
-            Status::Malformed,
-            "refused line=39 reason=13\n",
-        ),
-        (
-            39,
-            "end  complete",
-            Status::Malformed,
-            "refused line=39 reason=13\n",
-        ),
-        (
-            39,
-            "eeeeeeeeeeeeeeeeeeeeeeeeeeeeeeeeeeeeeeeeeeeeeeeeeeeeeeeeeeeeeeeeeeeeeeeeeeeeeeeee",
-            Status::Malformed,
-            "refused line=39 reason=1\n",
-        ),
+        (26, "w 1", Status::Done, ACCEPTED),
     ];
     for (number, line, status, text) in rows {
         let file = with_line(rt.alloc(), number, line)?;
@@ -230,10 +170,12 @@ fn check_refuses_a_file_that_is_cut(rt: HostRuntime) -> Result<(), Fail> {
     Ok(())
 }
 
-// Other polygons and other trees.
+// Other trees, and a line behind the end line.
 #[test]
 fn check_judges_whole_files(rt: HostRuntime) -> Result<(), Fail> {
-    let rows: [(&[&str], Status, &str); 8] = [
+    let right_triangles = "polygon 4\n31 15\n33 15\n33 17\n31 17\n";
+    let uncovered = "depth 2\ns\ns\no\nu\no\nu\ns\nu\no\nu\no\no\no\nend open 4\n";
+    let rows: [(&[&str], Status, &str); 5] = [
         (&FILE, Status::Done, ACCEPTED),
         (
             &[GRID, TRIANGLE, WORD, DEPTH, FIRST_NODES, FEWER_NODES, END],
@@ -242,64 +184,16 @@ fn check_judges_whole_files(rt: HostRuntime) -> Result<(), Fail> {
         ),
         // The whole square has triangles without that corridor.
         (
-            &[GRID, TRIANGLE, WORD, "depth 0\n", "w 1\n", END],
+            &[GRID, TRIANGLE, WORD, "depth 0\nw 1\n", END],
             Status::NotShown,
             "refused line=10 reason=11\n",
         ),
-        // The corners run clockwise, three of them lie on one line, and they go round a star.
-        (
-            &[
-                GRID,
-                "polygon 3\n127 127\n127 128\n128 127\n",
-                WORD,
-                DEPTH,
-                FIRST_NODES,
-                LAST_NODES,
-                END,
-            ],
-            Status::Malformed,
-            "refused line=6 reason=6\n",
-        ),
-        (
-            &[
-                GRID,
-                "polygon 4\n100 100\n110 100\n120 100\n110 110\n",
-                WORD,
-                DEPTH,
-                FIRST_NODES,
-                LAST_NODES,
-                END,
-            ],
-            Status::Malformed,
-            "refused line=7 reason=6\n",
-        ),
-        (
-            &[
-                GRID,
-                "polygon 5\n110 100\n124 110\n106 110\n120 100\n115 118\n",
-                WORD,
-                DEPTH,
-                FIRST_NODES,
-                LAST_NODES,
-                END,
-            ],
-            Status::Malformed,
-            "refused line=8 reason=6\n",
-        ),
         // Four squares round a right triangle are left uncovered.
         (
-            &[
-                "mcbcover 1\ngrid 64\n",
-                "polygon 4\n31 15\n33 15\n33 17\n31 17\n",
-                WORD,
-                "depth 2\n",
-                "s\ns\no\nu\no\nu\ns\nu\no\nu\no\no\no\n",
-                "end open 4\n",
-            ],
+            &["mcbcover 1\ngrid 64\n", right_triangles, WORD, uncovered],
             Status::NotShown,
             "refused line=14 reason=12\n",
         ),
-        // A line stands behind the end line.
         (
             &[
                 GRID,
@@ -318,6 +212,29 @@ fn check_judges_whole_files(rt: HostRuntime) -> Result<(), Fail> {
     for (parts, status, text) in rows {
         let file = joined(rt.alloc(), parts)?;
         assert_judged(&rt, file.as_str(), status, text)?;
+    }
+    Ok(())
+}
+
+// The corners run clockwise, three of them lie on one line, and they go round a star.
+#[test]
+fn check_refuses_what_is_not_convex(rt: HostRuntime) -> Result<(), Fail> {
+    for (polygon, text) in [
+        (
+            "polygon 3\n127 127\n127 128\n128 127\n",
+            "refused line=6 reason=6\n",
+        ),
+        (
+            "polygon 4\n100 100\n110 100\n120 100\n110 110\n",
+            "refused line=7 reason=6\n",
+        ),
+        (
+            "polygon 5\n110 100\n124 110\n106 110\n120 100\n115 118\n",
+            "refused line=8 reason=6\n",
+        ),
+    ] {
+        let file = joined(rt.alloc(), &[GRID, polygon, WORD, DEPTH])?;
+        assert_judged(&rt, file.as_str(), Status::Malformed, text)?;
     }
     Ok(())
 }

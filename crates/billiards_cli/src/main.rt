@@ -19,6 +19,7 @@ mod status;
 #[cfg(test)]
 mod tests;
 mod usage;
+mod word_line;
 
 pub use args::Args;
 use mcb_ends::{StdSink, StdSource};

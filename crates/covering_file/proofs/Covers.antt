@@ -8,6 +8,7 @@ use Rattle.rat_core.proofs.Order.{over_positive}
 use Rattle.rational_polygon.specs.Point.{Point}
 use Rattle.rational_polygon.specs.Square.{Square, unit_square, child, IsInBox}
 use Rattle.rational_polygon.specs.Outline.{IsInPolygon}
+use Rattle.rational_polygon.proofs.Fan.{point_is_triangle}
 use Rattle.rational_polygon.proofs.Grid.{in_unit_square}
 use Rattle.rational_polygon.proofs.Halves.{some_child}
 use Rattle.rational_polygon.proofs.Separation.{apart_has_none}
@@ -19,7 +20,7 @@ use Rattle.covering_file.specs.Header.{Heading}
 use Rattle.covering_file.specs.Faults.{word_at}
 use Rattle.covering_file.specs.Tree.{outside, shown, uncovered, Tree, leaf, split, StandsAt}
 use Rattle.covering_file.specs.Sound.{IsSoundNode}
-use Rattle.covering_file.specs.Laws.{SoundCovers, SoundIsCovered, SureIsSound}
+use Rattle.covering_file.specs.Laws.{SoundCovers, SoundIsCovered, CoveredEverywhere, SureIsSound}
 
 -- in the tree of `root`, a box that is shown and has the point
 record IsFound (root : Square) (t : Tree) (p : Point) : Type 0 where
@@ -82,6 +83,9 @@ sound_is_covered h t heading sound p of_polygon triangle =
     let f = sound_covers h t heading sound p of_polygon in
     let shows = sound f.0 (Shown f.1) f.2 in
     (f.1, shows.0, clear_gives_corridor_lem (word_at h.words f.1) f.0 (slack 60) positive shows.1 p f.3)
+
+pub covered_everywhere : CoveredEverywhere
+covered_everywhere h heading covered p of_polygon = covered p of_polygon (point_is_triangle h.outline p heading.polygon of_polygon)
 
 sure_node : (h : Heading) (box : Square) (node : Node) → IsSoundNode h (slack 40) box node → IsSoundNode h (slack 60) box node
 sure_node h box Split sure = sure

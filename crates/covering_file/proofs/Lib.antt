@@ -15,12 +15,15 @@ pub mod OutlineLines
 pub mod HeaderFaults
 pub mod HeaderParts
 pub mod JobParts
+pub mod HeaderWalk
 pub mod OneHeader
 pub mod NoOffence
+pub mod OneOffence
 pub mod Trees
 pub mod TreeText
 pub mod Passed
 pub mod Covers
 pub mod NodeLines
+pub mod OneFile
 pub mod Sure
 pub mod Accepted

@@ -81,43 +81,59 @@ one_kind Cover Job is = absurd (omega (arith, ap length is))
 one_kind Job Cover is = absurd (omega (arith, ap length is))
 one_kind Job Job is = refl
 
--- two fields of at most 40 bytes, of which the first lacks newlines and the second is a number
+pub grid_one : HasNoNewline (codes "grid")
+grid_one = lacks_byte newline (codes "grid") refl
+
+pub polygon_one : HasNoNewline (codes "polygon")
+polygon_one = lacks_byte newline (codes "polygon") refl
+
+pub words_one : HasNoNewline (codes "words")
+words_one = lacks_byte newline (codes "words") refl
+
+pub depth_one : HasNoNewline (codes "depth")
+depth_one = lacks_byte newline (codes "depth") refl
+
+-- two fields, of which the first lacks newlines and the second is a number
+pub two_fields-one : (name : List ℕ) (n : ℕ) → HasNoNewline name → HasNoNewline (two_fields name (decimal n))
+two_fields-one name n none = All-append (λ b. b ≢ newline) name (space ∷ decimal n) none (All-cons (λ b. b ≢ newline) space (decimal n) (λ e. omega (arith, e)) (decimal_without newline n (omega arith)))
+
+-- and is of at most 40 bytes
 pub two_fields-short : (name : List ℕ) (n : ℕ) → HasNoNewline name → length name ≤ 40 → n ≤ 1048576 → IsShortLine (two_fields name (decimal n))
 two_fields-short name n none small low = record {
-  one = All-append (λ b. b ≢ newline) name (space ∷ decimal n) none (All-cons (λ b. b ≢ newline) space (decimal n) (λ e. omega (arith, e)) (decimal_without newline n (omega arith) (omega arith)));
+  one = two_fields-one name n none;
   short = omega (arith, length-append name (space ∷ decimal n), length-decimal n low);
 }
 
-pub one_number : (name : List ℕ) (m n : ℕ) → m ≤ 1048576 → n ≤ 1048576 → named_line name m ≡ named_line name n → m ≡ n
-one_number name m n low low' is =
+pub one_number : (name : List ℕ) (m n : ℕ) → m ≤ 1048576 → named_line name m ≡ named_line name n → m ≡ n
+one_number name m n low is =
     let behind : space ∷ decimal m ≡ space ∷ decimal n = append_cancel_left name (space ∷ decimal m) (space ∷ decimal n) is in
     let digits : decimal m ≡ decimal n = cc in
-    decimal_one m n low low' digits
+    decimal_one m n low digits
 
 -- the number of a line with a name, and what follows that line
-pub number_line : (name : List ℕ) (m n : ℕ) (lines others : List (List ℕ)) (x y : List ℕ) → HasNoNewline name → length name ≤ 40 → m ≤ 1048576 → n ≤ 1048576
+pub number_line : (name : List ℕ) (m n : ℕ) (lines others : List (List ℕ)) (x y : List ℕ) → HasNoNewline name → m ≤ 1048576
     → text_of (named_line name m ∷ lines) ++ x ≡ text_of (named_line name n ∷ others) ++ y → (m ≡ n) × (text_of lines ++ x ≡ text_of others ++ y)
-number_line name m n lines others x y none small low low' is =
-    let next = one_line (named_line name m) (named_line name n) lines others x y (two_fields-short name m none small low).one (two_fields-short name n none small low').one is in
-    (one_number name m n low low' next.0, next.1)
+number_line name m n lines others x y none low is =
+    let next = one_line (named_line name m) (named_line name n) lines others x y (two_fields-one name m none) (two_fields-one name n none) is in
+    (one_number name m n low next.0, next.1)
 
 -- a corner whose numbers are in the range of a grid
 pub record IsOnGrid (c : ℕ × ℕ) : Type 0 where
   pub x : c.0 ≤ 1048576
   pub y : c.1 ≤ 1048576
 
-pub decimal-no_space : (n : ℕ) → n ≤ 1048576 → HasNoSpace (decimal n)
-decimal-no_space n low = decimal_without space n (omega arith) (omega arith)
+pub decimal-no_space : (n : ℕ) → HasNoSpace (decimal n)
+decimal-no_space n = decimal_without space n (omega arith)
 
 pub corner_line-short : (c : ℕ × ℕ) → IsOnGrid c → IsShortLine (corner_line c)
 corner_line-short c grid =
-    two_fields-short (decimal c.0) c.1 (decimal_without newline c.0 (omega arith) (omega (arith, grid.x))) (omega (arith, length-decimal c.0 grid.x)) grid.y
+    two_fields-short (decimal c.0) c.1 (decimal_without newline c.0 (omega arith)) (omega (arith, length-decimal c.0 grid.x)) grid.y
 
-pub one_corner : (c d : ℕ × ℕ) → IsOnGrid c → IsOnGrid d → corner_line c ≡ corner_line d → c ≡ d
-one_corner c d grid grid' is =
-    let fields = parted space (decimal c.0) (decimal d.0) (decimal c.1) (decimal d.1) (decimal-no_space c.0 grid.x) (decimal-no_space d.0 grid'.x) is in
-    let x : c.0 ≡ d.0 = decimal_one c.0 d.0 grid.x grid'.x fields.0 in
-    let y : c.1 ≡ d.1 = decimal_one c.1 d.1 grid.y grid'.y fields.1 in
+pub one_corner : (c d : ℕ × ℕ) → IsOnGrid c → corner_line c ≡ corner_line d → c ≡ d
+one_corner c d grid is =
+    let fields = parted space (decimal c.0) (decimal d.0) (decimal c.1) (decimal d.1) (decimal-no_space c.0) (decimal-no_space d.0) is in
+    let x : c.0 ≡ d.0 = decimal_one c.0 d.0 grid.x fields.0 in
+    let y : c.1 ≡ d.1 = decimal_one c.1 d.1 grid.y fields.1 in
     ap (λ (n : ℕ). let p : ℕ × ℕ = (n, c.1) in p) x ∙ ap (λ (n : ℕ). let p : ℕ × ℕ = (d.0, n) in p) y
 
 pub digits_of-short : (w : List ℕ) → IsWord w → IsShortLine (digits_of w)

@@ -5,15 +5,14 @@ use Rattle.std.proofs.lemmas.List.{append-nil, append_cancel_left, take_at}
 use Rattle.rat_core.specs.Fraction.{ℚ}
 use Rattle.rational_polygon.specs.Square.{Square, unit_square, child}
 use Rattle.gradient_bounds.specs.Clear.{slack}
-use Rattle.mcb_ends.specs.Lines.{newline, Text, IsNext, IsShortLine}
+use Rattle.mcb_ends.specs.Lines.{newline, IsShortLine}
 use Rattle.covering_file.specs.declared.file_kind.FileKind.TheVariants.{Cover}
 use Rattle.covering_file.specs.declared.node.Node.{Node}
 use Rattle.covering_file.specs.declared.node.Node.TheVariants as node
 use Rattle.covering_file.specs.declared.reason.Reason.{Reason}
-use Rattle.covering_file.specs.declared.reason.Reason.TheVariants as reason
-use Rattle.covering_file.specs.Text.{with_newline, text_of}
+use Rattle.covering_file.specs.Text.{with_newline, text_of, BeginsWith}
 use Rattle.covering_file.specs.Header.{Heading, IsHeading, header_lines, header_text}
-use Rattle.covering_file.specs.JobOffence.{EndHas, AfterHas}
+use Rattle.covering_file.specs.JobOffence.{EndHas}
 use Rattle.covering_file.specs.Node.{node_line, end_line, IsNode}
 use Rattle.covering_file.specs.Tree.{outside, shown, uncovered, Tree, leaf, split, preorder, StandsAt, tree_text, uncovered_in, file_text}
 use Rattle.covering_file.specs.DueBoxes.{due_boxes, AreDue, StandsIn}
@@ -23,11 +22,11 @@ use Rattle.covering_file.specs.FileOffence.{FileDue, InHeader, AtNode, AtEnd, Af
 use Rattle.covering_file.specs.Laws.{SureIsNotRefused}
 use Rattle.covering_file.proofs.Lines.{lacks_byte, lines_of_list}
 use Rattle.covering_file.proofs.OneHeader.{header_is_one}
-use Rattle.covering_file.proofs.NoOffence.{no_reason, header_never_offends}
+use Rattle.covering_file.proofs.NoOffence.{header_never_offends, end_lacks, after_lacks}
 use Rattle.covering_file.proofs.Trees.{each_stands, stands_next, tree_is_whole, list_to_tree}
-use Rattle.covering_file.proofs.FrontLines.{text_of-append}
+use Rattle.covering_file.proofs.FrontLines.{no_reason, text_of-append}
 use Rattle.covering_file.proofs.TreeText.{uncovered_in-counted, tree_text-end}
-use Rattle.covering_file.proofs.NodeLines.{node_line-short, one_node, sound_is_node, sure_lacks}
+use Rattle.covering_file.proofs.NodeLines.{node_line-one, node_line-short, one_node, sound_is_node, sure_lacks}
 
 -- ---- nodes that may pass, before a line of a file with all the nodes of a tree
 
@@ -45,14 +44,14 @@ none_longer all nodes more none due less list =
 begun : (words : ℕ) → words ≤ 32 → (all nodes : List Node) (end : List ℕ) (others : List (List ℕ)) (rest : List ℕ) → All (IsNode words) all → All (IsNode words) nodes → due_boxes all ≡ [] → AreDue nodes
     → text_of (map node_line all ++ end ∷ []) ≡ text_of (map node_line nodes ++ others) ++ rest → IsBegun all nodes end others rest
 begun words few all nodes end others rest each each' none due is =
-    let one = λ (n : Node) (of : IsNode words n). (node_line-short words few n of).one in
+    let one = λ (n : Node) (_ : IsNode words n). node_line-one n in
     let whole : text_of (map node_line all ++ end ∷ []) ++ [] ≡ text_of (map node_line nodes ++ others) ++ rest = append-nil (text_of (map node_line all ++ end ∷ [])) ∙ is in
     elim (cases_lt (length all) (length nodes)) [
       | inl less ↦
-          let longer = lines_of_list node_line (IsNode words) one (one_node words few) nodes all others (end ∷ []) rest [] each' each (omega (arith, less)) (sym whole) in
+          let longer = lines_of_list node_line (IsNode words) one (λ m n of _ same. one_node words few m n of same) nodes all others (end ∷ []) rest [] each' each (omega (arith, less)) (sym whole) in
           absurd (none_longer all nodes longer.more none due less longer.list)
       | inr within ↦
-          let first = lines_of_list node_line (IsNode words) one (one_node words few) all nodes (end ∷ []) others [] rest each each' within whole in
+          let first = lines_of_list node_line (IsNode words) one (λ m n of _ same. one_node words few m n of same) all nodes (end ∷ []) others [] rest each each' within whole in
           record { more = first.more; list = first.list; text = sym (append-nil (text_of (map node_line first.more ++ end ∷ []))) ∙ first.text }
     ]
 
@@ -64,8 +63,8 @@ ended all nodes (m ∷ more) due list none =
     absurd (due (length nodes) within (ap (λ (ns : List Node). due_boxes (take (length nodes) ns)) list ∙ ap (λ (ns : List Node). due_boxes ns) (take_at nodes (m ∷ more) (length nodes) refl) ∙ none))
 
 -- a line that stands next
-next_line : (line : List ℕ) (lines : List (List ℕ)) (bytes : List ℕ) → IsShortLine line → text_of (line ∷ lines) ≡ bytes → IsNext bytes (Text line) (text_of lines)
-next_line line lines bytes short is = (short, sym is ∙ append_assoc line (newline ∷ []) (text_of lines))
+begins : (line : List ℕ) (lines : List (List ℕ)) (bytes : List ℕ) → IsShortLine line → text_of (line ∷ lines) ≡ bytes → BeginsWith bytes line
+begins line lines bytes short is = (text_of lines, (short, sym is ∙ append_assoc line (newline ∷ []) (text_of lines)))
 
 -- ---- what a sure tree says
 
@@ -120,8 +119,8 @@ at_node_of limit h t nodes (n ∷ more) box boxes rest tree due list text r =
     let few = tree.heading.word_count.1 in
     let fewer : length nodes < limit = omega (arith, tree.within, ap length list, length-append nodes (n ∷ more)) in
     let short = node_line-short (length h.words) few n (sound_is_node h (slack 40) box n sure) in
-    let next = next_line (node_line n) (map node_line more ++ due_end (preorder t) ∷ []) rest short text in
-    no_reason (NodeCanHave limit h nodes box) rest (node_line n) (text_of (map node_line more ++ due_end (preorder t) ∷ [])) next (sure_lacks limit h nodes box n few fewer sure) r
+    let next = begins (node_line n) (map node_line more ++ due_end (preorder t) ∷ []) rest short text in
+    no_reason (NodeCanHave limit h nodes box) rest (node_line n) next (sure_lacks limit h nodes box n few fewer sure) r
 
 at_node : (limit : ℕ) (h : Heading) (t : Tree) (nodes : List Node) (box : Square) (boxes : List Square) (rest : List ℕ) → IsSureTree limit h t → MayPass limit h nodes → due_boxes nodes ≡ box ∷ boxes → StandsBehind t nodes [] rest
     → (r : Reason) → ¬ (CanHave limit (AtNode h nodes box) rest r)
@@ -140,21 +139,13 @@ all_nodes limit h t nodes others rest tree pass none is =
       ap (λ (ns : List Node). text_of (map node_line ns ++ due_end (preorder t) ∷ [])) (sym last) ∙ b.text,
     )
 
-end_lacks : (line : List ℕ) (r : Reason) → ¬ (EndHas line line r)
-end_lacks line reason.EndLine has = has refl
-end_lacks line r has = has
-
 at_end : (limit : ℕ) (h : Heading) (t : Tree) (nodes : List Node) (rest : List ℕ) → IsSureTree limit h t → MayPass limit h nodes → due_boxes nodes ≡ [] → StandsBehind t nodes [] rest
     → (r : Reason) → ¬ (CanHave limit (AtEnd h nodes) rest r)
 at_end limit h t nodes rest tree pass none is r =
     let all = all_nodes limit h t nodes [] rest tree pass none is in
     let short = subst (λ (ns : List Node). IsShortLine (due_end ns)) all.0 (sure_end limit h t tree) in
     let text = ap (λ (ns : List Node). text_of (due_end ns ∷ [])) (sym all.0) ∙ all.1 in
-    no_reason (EndHas (due_end nodes)) rest (due_end nodes) [] (next_line (due_end nodes) [] rest short text) (end_lacks (due_end nodes)) r
-
-after_lacks : (rest : List ℕ) (r : Reason) → rest ≡ [] → ¬ (AfterHas rest r)
-after_lacks rest reason.EndLine none has = has none
-after_lacks rest r none has = has
+    no_reason (EndHas (due_end nodes)) rest (due_end nodes) (begins (due_end nodes) [] rest short text) (end_lacks (due_end nodes)) r
 
 after_end : (limit : ℕ) (h : Heading) (t : Tree) (nodes : List Node) (rest : List ℕ) → IsSureTree limit h t → MayPass limit h nodes → due_boxes nodes ≡ [] → StandsBehind t nodes (due_end nodes ∷ []) rest
     → (r : Reason) → ¬ (CanHave limit (AfterEnd h nodes) rest r)

@@ -129,16 +129,19 @@ whole_is_tree nodes = (whole_has_tree nodes, λ tree. subst AreWhole tree.1 (tre
 
 -- ---- one tree
 
-one_leaf : (l m : Leaf) → leaf_node l ≡ leaf_node m → l ≡ m
+pub one_leaf : (l m : Leaf) → leaf_node l ≡ leaf_node m → l ≡ m
 one_leaf outside outside is = refl
 one_leaf (shown i) (shown j) is = cc
 one_leaf uncovered uncovered is = refl
 one_leaf l m is = cc
 
-leaf_is_no_split : (l : Leaf) → leaf_node l ≡ Split → ⊥
+pub leaf_is_no_split : (l : Leaf) → leaf_node l ≡ Split → ⊥
 leaf_is_no_split outside is = cc
 leaf_is_no_split (shown i) is = cc
 leaf_is_no_split uncovered is = cc
+
+pub same_split : (a b c d a' b' c' d' : Tree) → a ≡ a' → b ≡ b' → c ≡ c' → d ≡ d' → split a b c d ≡ split a' b' c' d'
+same_split a b c d a' b' c' d' p q r s = cc
 
 unique : (s t : Tree) (xs ys : List Node) → preorder s ++ xs ≡ preorder t ++ ys → (s ≡ t) × (xs ≡ ys)
 unique (leaf l) (leaf m) xs ys is =
@@ -159,9 +162,6 @@ unique (split a b c d) (split a' b' c' d') xs ys is =
     let third = unique c c' (preorder d ++ xs) (preorder d' ++ ys) second.1 in
     let fourth = unique d d' xs ys third.1 in
     (same_split a b c d a' b' c' d' first.0 second.0 third.0 fourth.0, fourth.1)
-  where
-    same_split : (a b c d a' b' c' d' : Tree) → a ≡ a' → b ≡ b' → c ≡ c' → d ≡ d' → split a b c d ≡ split a' b' c' d'
-    same_split a b c d a' b' c' d' p q r s = cc
 
 pub tree_is_one : TreeIsOne
 tree_is_one s t is =

@@ -1,27 +1,13 @@
 -- A line with one space has two fields.
-use Rattle.std.proofs.Common.{◌≡◌, ◌≢◌, ℕ, suc, ◌+◌, ◌-◌, ◌<◌, ◌≤◌, Bool, true, false, not, cond, List, [], ◌∷◌, ◌++◌, length, take, drop, get_or, Some, None, ◌==◌, nat_lt, refl, sym, ap, ◌∙◌, subst, arith, take-append-drop, drop-cons, length-take, length-drop, add-one}
-use Rattle.std.proofs.lemmas.Bool.{eqb-true, ltb-false}
+use Rattle.std.proofs.Common.{◌≡◌, ◌≢◌, ℕ, suc, ◌+◌, ◌-◌, ◌<◌, List, [], ◌∷◌, ◌++◌, length, take, drop, get_or, Some, None, ◌==◌, refl, sym, ap, ◌∙◌, subst, arith, take-append-drop, drop-cons, length-take, length-drop, add-one}
+use Rattle.std.proofs.lemmas.Bool.{eqb-true}
 use Rattle.std.proofs.lemmas.List.{get_or-take, take_all}
 use Rattle.std.proofs.lemmas.List.Elements.{All-tail}
 use Rattle.std.proofs.lemmas.List.Quantifiers.{position-Some}
-use Rattle.std.proofs.lemmas.List.Sums.{prefix_len_passes}
-use Rattle.std.specs.List.{position, position_or_len}
+use Rattle.std.specs.List.{position}
+use Rattle.mcb_ends.proofs.Sought.{no_place}
 use Rattle.covering_file.proofs.Lines.{parted}
 use Rattle.covering_file.specs.Text.{space, HasNoSpace, IsTwoFields, two_fields}
-
--- a choice that gives nothing chose by false
-chose_false : (b : Bool) (n : ℕ) → cond b (Some n) None ≡ None → b ≡ false
-chose_false true n is = cc
-chose_false false n is = refl
-
--- no space among bytes where none is found
-no_place : (bytes : List ℕ) → position (λ byte. byte == space) bytes ≡ None → HasNoSpace bytes
-no_place bytes is k d within at =
-    let place = position_or_len (λ (byte : ℕ). byte == space) bytes in
-    let late : length bytes ≤ place = ltb-false place (length bytes) (chose_false (nat_lt place (length bytes)) place is) in
-    let passes = prefix_len_passes (λ (byte : ℕ). not (byte == space)) bytes k d (omega arith) in
-    let no = rw at at passes in
-    cc
 
 -- a space that is found stands behind bytes that have none
 record Parts (bytes : List ℕ) (len : ℕ) : Type 0 where
@@ -51,7 +37,7 @@ fields_are_one line first second first' second' p q = parted space first first' 
 pub one_field : (line : List ℕ) → position (λ byte. byte == space) line ≡ None → (first second : List ℕ) → ¬ IsTwoFields line first second
 one_field line is first second fields =
     let cut : line ≡ two_fields first second = fields.is in
-    no_space_in first second (subst HasNoSpace cut (no_place line is))
+    no_space_in first second (subst HasNoSpace cut (no_place space line is))
   where
     no_space_in : (first second : List ℕ) → HasNoSpace (two_fields first second) → ⊥
     no_space_in [] second none = none 0 0 (omega arith) refl
@@ -64,7 +50,7 @@ rest_is n line = take_all (length line - n) (drop n line) (omega (arith, length-
 pub two_found : (line : List ℕ) (at : ℕ) → position (λ byte. byte == space) line ≡ Some at → position (λ byte. byte == space) (take (length line - (at + 1)) (drop (at + 1) line)) ≡ None → IsTwoFields line (take at line) (take (length line - (at + 1)) (drop (at + 1) line))
 two_found line at is none =
     let p = parts line at is in
-    rw rest_is (record { is = p.split; first_field = p.first; second_field = no_place (drop (at + 1) line) (rw rest_is at none) })
+    rw rest_is (record { is = p.split; first_field = p.first; second_field = no_place space (drop (at + 1) line) (rw rest_is at none) })
 
 -- with a second space there are more
 pub more_fields : (line : List ℕ) (at more : ℕ) → position (λ byte. byte == space) line ≡ Some at → position (λ byte. byte == space) (take (length line - (at + 1)) (drop (at + 1) line)) ≡ Some more → (first second : List ℕ) → ¬ IsTwoFields line first second

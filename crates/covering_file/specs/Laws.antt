@@ -1,23 +1,27 @@
 -- What follows from the definitions alone.
-use Rattle.std.specs.Prelude.{◌≡◌, ℕ, ◌↔◌, List, [], ◌∷◌, ◌++◌, length}
+use Rattle.std.specs.Prelude.{◌≡◌, ℕ, ◌↔◌, List, [], ◌∷◌, ◌++◌, All, length}
+use Rattle.rat_core.specs.Fraction.{ℚ}
 use Rattle.rational_polygon.specs.Point.{Point}
 use Rattle.rational_polygon.specs.Square.{Square, unit_square, IsInBox}
 use Rattle.rational_polygon.specs.Outline.{IsInPolygon}
+use Rattle.gradient_bounds.specs.Corridor.{HasCorridor}
 use Rattle.covering_file.specs.declared.file_kind.FileKind.{FileKind}
 use Rattle.covering_file.specs.declared.node.Node.{Node}
 use Rattle.covering_file.specs.declared.node.Node.TheVariants.{Shown}
 use Rattle.covering_file.specs.declared.reason.Reason.{Reason}
 use Rattle.covering_file.specs.Text.{text_of}
 use Rattle.covering_file.specs.Header.{Heading, IsHeading, header_text, job_text}
+use Rattle.covering_file.specs.Faults.{word_at, IsListed}
+use Rattle.covering_file.specs.Node.{IsNode}
 use Rattle.covering_file.specs.HeaderOffence.{header_grammar}
 use Rattle.covering_file.specs.JobOffence.{job_grammar}
-use Rattle.covering_file.specs.Offence.{IsFirstOffence}
+use Rattle.covering_file.specs.Offence.{Grammar, IsFirstOffence}
 use Rattle.covering_file.specs.Tree.{Tree, preorder, StandsAt, file_text}
 use Rattle.covering_file.specs.DueBoxes.{due_boxes, AreWhole, StandsIn}
 use Rattle.covering_file.specs.Sound.{IsSound, IsSure}
 use Rattle.covering_file.specs.Covering.{IsCovered, IsCovering}
 use Rattle.covering_file.specs.FileOffence.{MayPass, AfterEnd, lines_before}
-use Rattle.covering_file.specs.Verdicts.{IsAccepted, IsRefused, IsSureFile}
+use Rattle.covering_file.specs.Verdicts.{IsFileWith, IsAccepted, IsRefused, IsSureFile}
 
 -- bytes that begin with the texts of two headers begin with one
 abbrev pub HeaderIsOne : Type 0
@@ -34,6 +38,10 @@ HeaderNeverOffends = (kind : FileKind) (h : Heading) (rest : List ℕ) (line : �
 -- no line of a job offends
 abbrev pub JobNeverOffends : Type 0
 JobNeverOffends = (h : Heading) (line : ℕ) (reason : Reason) → IsHeading h → ¬ (IsFirstOffence job_grammar (job_text h) line reason)
+
+-- bytes offend first at one line, and there by one least reason
+abbrev pub OffenceIsOne : Grammar → Type 0
+OffenceIsOne g = (bytes : List ℕ) (line other : ℕ) (reason reason' : Reason) → IsFirstOffence g bytes line reason → IsFirstOffence g bytes other reason' → (line ≡ other) × (reason ≡ reason')
 
 -- ---- trees
 
@@ -57,6 +65,10 @@ SoundCovers = (h : Heading) (t : Tree) → IsHeading h → IsSound h t → (p : 
 abbrev pub SoundIsCovered : Type 0
 SoundIsCovered = (h : Heading) (t : Tree) → IsHeading h → IsSound h t → IsCovered h
 
+-- where a polygon is covered, every point of it has a listed word with a corridor there
+abbrev pub CoveredEverywhere : Type 0
+CoveredEverywhere = (h : Heading) → IsHeading h → IsCovered h → (p : Point) → IsInPolygon h.outline p → (i : ℕ) × IsListed h.words i × HasCorridor (word_at h.words i) p.x p.y
+
 abbrev pub SureIsSound : Type 0
 SureIsSound = (h : Heading) (t : Tree) → IsSure h t → IsSound h t
 
@@ -64,11 +76,19 @@ SureIsSound = (h : Heading) (t : Tree) → IsSure h t → IsSound h t
 abbrev pub FileTextIsLines : Type 0
 FileTextIsLines = (h : Heading) (t : Tree) → file_text h t ≡ text_of (lines_before (AfterEnd h (preorder t)))
 
+-- bytes that begin with the texts of two files begin with one, where the word numbers of one of the trees are listed
+abbrev pub FileIsOne : Type 0
+FileIsOne = (g h : Heading) (s t : Tree) (x y : List ℕ) → IsHeading g → IsHeading h → All (IsNode (length g.words)) (preorder s) → file_text g s ++ x ≡ file_text h t ++ y → (g ≡ h) × (s ≡ t) × (x ≡ y)
+
 -- ---- verdicts
 
 -- an accepted file is whole, and its polygon is covered
 abbrev pub AcceptedIsCovering : Type 0
 AcceptedIsCovering = (limit nodes words : ℕ) (bytes : List ℕ) → IsAccepted limit nodes words bytes → IsCovering limit bytes
+
+-- and its bytes are the text of no other file
+abbrev pub AcceptedIsOne : Type 0
+AcceptedIsOne = (e : ℚ) (nodes words : ℕ) (bytes : List ℕ) (file : IsFileWith e nodes words bytes) (h : Heading) (t : Tree) → IsHeading h → bytes ≡ file_text h t → (h ≡ file.heading) × (t ≡ file.tree)
 
 -- a file whose lines can all pass is accepted
 abbrev pub PassedIsAccepted : Type 0

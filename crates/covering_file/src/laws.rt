@@ -1,5 +1,8 @@
 //! What follows from the definitions alone: each function's contract is a law. The program calls none.
-ghost use Rattle.covering_file.specs.Laws.{HeaderIsOne, NoHeaderPrefix, HeaderNeverOffends, JobNeverOffends, WholeIsTree, TreeIsOne, StandingIsDue, SoundCovers, SoundIsCovered, SureIsSound, FileTextIsLines, PassedIsAccepted, AcceptedIsCovering, SureIsNotRefused};
+ghost use Rattle.covering_file.specs.declared.file_kind.FileKind.{FileKind};
+ghost use Rattle.covering_file.specs.HeaderOffence.{header_grammar};
+ghost use Rattle.covering_file.specs.JobOffence.{job_grammar};
+ghost use Rattle.covering_file.specs.Laws.{HeaderIsOne, NoHeaderPrefix, HeaderNeverOffends, JobNeverOffends, OffenceIsOne, WholeIsTree, TreeIsOne, StandingIsDue, SoundCovers, SoundIsCovered, CoveredEverywhere, SureIsSound, FileTextIsLines, FileIsOne, PassedIsAccepted, AcceptedIsCovering, AcceptedIsOne, SureIsNotRefused};
 
 /// Bytes that begin with the texts of two headers begin with one.
 pub fn header_is_one()
@@ -19,6 +22,12 @@ pub fn header_never_offends()
 /// No line of a job offends.
 pub fn job_never_offends()
     ensures { JobNeverOffends }
+{}
+
+/// Bytes of a header or a job offend first at one line, and there by one least reason.
+pub fn offence_is_one()
+    ensures header { (kind : FileKind) → OffenceIsOne (header_grammar kind) }
+    ensures job { OffenceIsOne job_grammar }
 {}
 
 /// The nodes of a list are those of a whole tree exactly where a box is due before each and none after all.
@@ -46,6 +55,11 @@ pub fn sound_is_covered()
     ensures { SoundIsCovered }
 {}
 
+/// Where a polygon is covered, every point of it has a corridor of a listed word, since every point of it is a triangle.
+pub fn covered_everywhere()
+    ensures { CoveredEverywhere }
+{}
+
 /// A sure tree is sound.
 pub fn sure_is_sound()
     ensures { SureIsSound }
@@ -56,9 +70,19 @@ pub fn file_text_is_lines()
     ensures { FileTextIsLines }
 {}
 
+/// Bytes that begin with the texts of two files begin with one, where the word numbers of one of the trees are listed.
+pub fn file_is_one()
+    ensures { FileIsOne }
+{}
+
 /// An accepted file is whole, and its polygon is covered.
 pub fn accepted_is_covering()
     ensures { AcceptedIsCovering }
+{}
+
+/// The bytes of an accepted file are the text of no other file.
+pub fn accepted_is_one()
+    ensures { AcceptedIsOne }
 {}
 
 /// A file whose lines can all pass is accepted.

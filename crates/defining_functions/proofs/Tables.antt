@@ -5,10 +5,6 @@ use Rattle.std.proofs.Math.Seq.{get_or-append_seam}
 use Rattle.std.proofs.lemmas.Bool.{cases_lt}
 use Rattle.defining_functions.specs.Tables.{IsTable}
 
--- no entries
-pub IsTable-nil : {A : Type 0} (P : ℕ → A → Type 0) → IsTable P 0 []
-IsTable-nil P = record { count = omega arith; each = λ i x below. absurd (omega (arith, below)) }
-
 -- one entry more
 pub IsTable-snoc : {A : Type 0} (P : ℕ → A → Type 0) (n : ℕ) (xs : List A) (x : A) → IsTable P n xs → P n x → IsTable P (n + 1) (xs ++ x ∷ [])
 IsTable-snoc {A} P n xs x h is = record {

@@ -1,5 +1,5 @@
 -- What an interval encloses, after each operation.
-use Rattle.std.proofs.Common.{◌≡◌, refl, sym, subst, subst₂, ap, ◌∙◌, ℕ, ◌<◌, ◌^◌, ℤ, pos, negsuc, ◌-ℤ◌, ◌*ℤ◌, neg_ℤ, ◌≤ℤ◌, [], ◌∷◌, arith}
+use Rattle.std.proofs.Common.{◌≡◌, refl, sym, subst, subst₂, ◌∙◌, ℕ, ◌<◌, ◌^◌, ℤ, pos, negsuc, ◌*ℤ◌, ◌≤ℤ◌, [], ◌∷◌, arith}
 use Rattle.std.proofs.lemmas.Int.{ints, clamps}
 use Rattle.std.proofs.lemmas.Nat.{pow_pos}
 use Rattle.std.specs.Int.{int_min, int_max}
@@ -9,14 +9,10 @@ use Rattle.ring_solver.proofs.Solver.{ring₃}
 use Rattle.ring_solver.proofs.Certificate.{le₄, le₅, mul_mono}
 use Rattle.ring_solver.proofs.Whole.{≤ℤ_trans}
 use Rattle.rat_core.specs.Fraction.{ℚ, ◌÷◌, ◌+ℚ◌, ◌-ℚ◌, ◌*ℚ◌, ◌≤ℚ◌, whole}
-use Rattle.rat_core.proofs.Laws.{ℚ_ring, ℚ_ordered, int-add, int-mul, int-neg, le_trans, lt_le, le_or_lt, mul_assoc, mul_comm}
+use Rattle.rat_core.proofs.Laws.{ℚ_ring, ℚ_ordered, int-add, int-mul, int-sub, le_trans, lt_le, le_or_lt, mul_assoc, mul_comm}
 use Rattle.rat_core.proofs.Order.{int_le, int_le_back, cancel_le, neg_nonneg}
 use Rattle.directed_fixed.specs.Rounding.{IsFloor, IsCeiling}
 use Rattle.directed_fixed.specs.Ends.{Ends, Encloses, sum_of, difference_of, multiple_of, least_product, greatest_product}
-
--- differences of whole numbers as fractions
-int-sub : (a b : ℤ) → (a -ℤ b) ÷ 1 ≡ a ÷ 1 -ℚ b ÷ 1
-int-sub a b = int-add a (neg_ℤ b) ∙ ap (λ t. a ÷ 1 +ℚ t) (int-neg b)
 
 -- m is at most k·x for x between a and b, if it is so at both ends ..
 below_between : (m k a b x : ℚ) → a ≤ℚ x → x ≤ℚ b → m ≤ℚ k *ℚ a → m ≤ℚ k *ℚ b → m ≤ℚ k *ℚ x

@@ -1,7 +1,7 @@
 -- The approximations of pi come to lie between the constants of a scale.
-use Rattle.std.proofs.Common.{◌≡◌, sym, subst, subst₂, ℕ, ◌+◌, ◌*◌, ◌^◌, ◌≤◌, ℤ, pos, ◌+ℤ◌, ◌*ℤ◌, ◌≤ℤ◌, arith}
+use Rattle.std.proofs.Common.{◌≡◌, sym, subst, subst₂, ℕ, ◌+◌, ◌*◌, ◌^◌, ◌<◌, ℤ, pos, ◌+ℤ◌, ◌*ℤ◌, ◌≤ℤ◌, arith}
 use Rattle.std.proofs.lemmas.Int.{ints}
-use Rattle.std.proofs.Math.Pow.{pow_mono}
+use Rattle.std.proofs.lemmas.Nat.{pow_pos}
 use Rattle.ring_solver.proofs.Certificate.{mul_mono}
 use Rattle.rat_core.specs.Fraction.{ℚ, ◌÷◌, whole, ◌*ℚ◌, ◌≤ℚ◌}
 use Rattle.rat_core.proofs.Laws.{ℚ_ordered, le_trans, mul_comm, mul_assoc, int-mul}
@@ -25,12 +25,12 @@ between bits lo hi low high = (
 )
 
 -- pi is from 3 to 16/5, so the constants of a scale are from 0 to 4
-pub pi_units : (bits : ℕ) (lo hi : ℤ) → 1 ≤ bits → hi ≡ lo +ℤ pos 1 → FromSomeOn (λ n. Encloses bits (record { lo = lo; hi = hi }) (pi_sum n)) → (pos 0 ≤ℤ lo) × (hi ≤ℤ pos (4 * 2 ^ bits))
-pi_units bits lo hi h one_unit p =
+pub pi_units : (bits : ℕ) (lo hi : ℤ) → hi ≡ lo +ℤ pos 1 → FromSomeOn (λ n. Encloses bits (record { lo = lo; hi = hi }) (pi_sum n)) → (pos 0 ≤ℤ lo) × (hi ≤ℤ pos (4 * 2 ^ bits))
+pi_units bits lo hi one_unit p =
     let n = p.0 + 16 in
     let enclosed = p.1 n (omega arith) in
     let units = whole (2 ^ bits) in
-    let room : 2 ^ 1 ≤ 2 ^ bits = pow_mono h in
+    let room : 0 < 2 ^ bits = pow_pos bits in
     let above : (pos 3 *ℤ pos (2 ^ bits)) ≤ℤ hi =
     int_le_back (pos 3 *ℤ pos (2 ^ bits)) hi
     (subst (λ t. t ≤ℚ hi ÷ 1) (sym (int-mul (pos 3) (pos (2 ^ bits))))

@@ -3,8 +3,8 @@ use Rattle.std.proofs.Common.{ℕ, ◌*◌, ◌^◌, ◌≤◌, ◌<◌, Bool, t
 use Rattle.std.specs.Int.{w128, int_min, int_max}
 use Rattle.std.proofs.lemmas.Int.{ints, clamps, fits_signed_from_abs, by_lt_z}
 use Rattle.std.proofs.Math.IntN.{*ℤ_comm}
-use Rattle.ring_solver.specs.Expression.{num, ◌⊞◌, ◌⊟◌, ◌⊠◌}
-use Rattle.ring_solver.proofs.Solver.{ring₃, ring₄}
+use Rattle.ring_solver.specs.Expression.{num, ◌⊞◌, ◌⊠◌}
+use Rattle.ring_solver.proofs.Solver.{ring₃}
 use Rattle.ring_solver.proofs.Whole.{ℤ_ring, ≤ℤ_trans, *ℤ_mono}
 use Rattle.directed_fixed.specs.Rounding.{IsFloor, IsCeiling}
 use Rattle.directed_fixed.specs.Ends.{Ends, IsWithin, IsInterval, sum_of, difference_of, multiple_of, least_product, greatest_product, outer_product}
@@ -96,15 +96,7 @@ quotient_width x r d w m positive low high width room =
     near_and_far : (a b m d lo hi w : ℤ) → lo <ℤ a → b <ℤ (hi +ℤ d) → hi ≤ℤ (lo +ℤ w) → w ≤ℤ m → (a +ℤ (m +ℤ d)) ≤ℤ b → ⊥
     near_and_far a b m d lo hi w h k l r f = omega (arith, ints)
 
--- sizes and widths of sums, differences and multiples
-pub sum_within : (x y : Ends) (m n : ℕ) → IsWithin m x → IsWithin n y → IsWithin (m + n) (sum_of x y)
-sum_within x y m n h k =
-    let a = h.low in
-    let b = h.high in
-    let c = k.low in
-    let d = k.high in
-    record { low = omega (arith, ints); high = omega (arith, ints) }
-
+-- sizes and widths of differences and multiples, and the width of a sum
 pub difference_within : (x y : Ends) (m n : ℕ) → IsWithin m x → IsWithin n y → IsWithin (m + n) (difference_of x y)
 difference_within x y m n h k =
     let a = h.low in
@@ -136,59 +128,3 @@ multiple_width c x w h k =
   where
     spread : (a b w : ℤ) → a ≤ℤ b → b ≤ℤ (a +ℤ w) → int_max a b ≤ℤ (int_min a b +ℤ w)
     spread a b w h k = omega (arith, ints, clamps)
-
--- products of numbers that are near each other
-near_products : (a b c d : ℤ) (m n v w : ℕ) → unsigned_abs a ≤ m → unsigned_abs d ≤ n → unsigned_abs (a -ℤ b) ≤ v → unsigned_abs (c -ℤ d) ≤ w → (a *ℤ c) ≤ℤ (b *ℤ d +ℤ pos (m * w + v * n))
-near_products a b c d m n v w a_size d_size a_near c_near =
-    let first = product_size a (c -ℤ d) m w a_size c_near in
-    let second = product_size (a -ℤ b) d v n a_near d_size in
-    let same : a *ℤ c ≡ b *ℤ d +ℤ (a *ℤ (c -ℤ d) +ℤ (a -ℤ b) *ℤ d) = ring₄ ℤ_ring (λ a b c d. a ⊠ c) (λ a b c d. b ⊠ d ⊞ (a ⊠ (c ⊟ d) ⊞ (a ⊟ b) ⊠ d)) refl a b c d in
-    subst (λ t. t ≤ℤ (b *ℤ d +ℤ pos (m * w + v * n))) (sym same) (added (b *ℤ d) (a *ℤ (c -ℤ d)) ((a -ℤ b) *ℤ d) (m * w) (v * n) first second)
-  where
-    added : (x y z : ℤ) (k l : ℕ) → unsigned_abs y ≤ k → unsigned_abs z ≤ l → (x +ℤ (y +ℤ z)) ≤ℤ (x +ℤ pos (k + l))
-    added x y z k l h h' = omega (arith, ints)
-
--- a is an end of x, or as near to both ends and as large as one
-record IsNear (x : Ends) (m v : ℕ) (a : ℤ) : Type 0 where
-  size : unsigned_abs a ≤ m
-  to_lo : unsigned_abs (a -ℤ x.lo) ≤ v
-  to_hi : unsigned_abs (a -ℤ x.hi) ≤ v
-
-lo_is_near : (x : Ends) (m v : ℕ) → IsWithin m x → x.lo ≤ℤ x.hi → x.hi ≤ℤ (x.lo +ℤ pos v) → IsNear x m v x.lo
-lo_is_near x m v h order width = record { size = h.low; to_lo = omega (arith, ints); to_hi = omega (arith, ints) }
-
-hi_is_near : (x : Ends) (m v : ℕ) → IsWithin m x → x.lo ≤ℤ x.hi → x.hi ≤ℤ (x.lo +ℤ pos v) → IsNear x m v x.hi
-hi_is_near x m v h order width = record { size = h.high; to_lo = omega (arith, ints); to_hi = omega (arith, ints) }
-
--- The width of a product, for intervals of sizes m and n and widths v and w: of the exact one, which is at most k, and
--- less than one unit more at each end.
-pub product_width : (x y r : Ends) (p m n v w k : ℕ) → 0 < p → IsFloor r.lo (least_product x y) (pos p) → IsCeiling r.hi (greatest_product x y) (pos p)
-    → IsWithin m x → IsWithin n y → x.lo ≤ℤ x.hi → y.lo ≤ℤ y.hi → x.hi ≤ℤ (x.lo +ℤ pos v) → y.hi ≤ℤ (y.lo +ℤ pos w) → m * w + v * n ≤ k * p → r.hi ≤ℤ (r.lo +ℤ pos (k + 1))
-product_width x y r p m n v w k positive low high x_size y_size x_order y_order x_width y_width room =
-    quotient_width (record { lo = least_product x y; hi = greatest_product x y }) r p (m * w + v * n) k positive low high spread room
-  where
-    corner : (a c : ℤ) → IsNear x m v a → IsNear y n w c → (a *ℤ c) ≤ℤ (least_product x y +ℤ pos (m * w + v * n))
-    corner a c h h' =
-        outer_has false (λ t. (a *ℤ c) ≤ℤ (t +ℤ pos (m * w + v * n))) (int_min (x.lo *ℤ y.lo) (x.lo *ℤ y.hi)) (int_min (x.hi *ℤ y.lo) (x.hi *ℤ y.hi))
-        (outer_has false (λ t. (a *ℤ c) ≤ℤ (t +ℤ pos (m * w + v * n))) (x.lo *ℤ y.lo) (x.lo *ℤ y.hi)
-        (near_products a x.lo c y.lo m n v w h.size y_size.low h.to_lo h'.to_lo) (near_products a x.lo c y.hi m n v w h.size y_size.high h.to_lo h'.to_hi))
-        (outer_has false (λ t. (a *ℤ c) ≤ℤ (t +ℤ pos (m * w + v * n))) (x.hi *ℤ y.lo) (x.hi *ℤ y.hi)
-        (near_products a x.hi c y.lo m n v w h.size y_size.low h.to_hi h'.to_lo) (near_products a x.hi c y.hi m n v w h.size y_size.high h.to_hi h'.to_hi))
-
-    x_lo : IsNear x m v x.lo
-    x_lo = lo_is_near x m v x_size x_order x_width
-
-    x_hi : IsNear x m v x.hi
-    x_hi = hi_is_near x m v x_size x_order x_width
-
-    y_lo : IsNear y n w y.lo
-    y_lo = lo_is_near y n w y_size y_order y_width
-
-    y_hi : IsNear y n w y.hi
-    y_hi = hi_is_near y n w y_size y_order y_width
-
-    spread : greatest_product x y ≤ℤ (least_product x y +ℤ pos (m * w + v * n))
-    spread =
-        outer_has true (λ t. t ≤ℤ (least_product x y +ℤ pos (m * w + v * n))) (int_max (x.lo *ℤ y.lo) (x.lo *ℤ y.hi)) (int_max (x.hi *ℤ y.lo) (x.hi *ℤ y.hi))
-        (outer_has true (λ t. t ≤ℤ (least_product x y +ℤ pos (m * w + v * n))) (x.lo *ℤ y.lo) (x.lo *ℤ y.hi) (corner x.lo y.lo x_lo y_lo) (corner x.lo y.hi x_lo y_hi))
-        (outer_has true (λ t. t ≤ℤ (least_product x y +ℤ pos (m * w + v * n))) (x.hi *ℤ y.lo) (x.hi *ℤ y.hi) (corner x.hi y.lo x_hi y_lo) (corner x.hi y.hi x_hi y_hi))

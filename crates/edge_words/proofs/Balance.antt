@@ -3,13 +3,17 @@ use Rattle.std.proofs.Common.{◌≡◌, ◌≢◌, ℕ, ◌+◌, ◌%◌, ◌<�
 use Rattle.std.proofs.lemmas.Bool.{cases_lt}
 use Rattle.std.proofs.lemmas.Bool.Decides.{nat_tests}
 use Rattle.std.proofs.lemmas.List.{take_all, take_more, length-take-le}
-use Rattle.std.proofs.lemmas.List.Sums.{sum_by-append}
+use Rattle.std.proofs.lemmas.List.Sums.{sum_by-cons, sum_by-append}
 use Rattle.edge_words.proofs.Places.{at_odd_places-append_even, at_even_places-append_even, at_odd_places-append_odd, at_even_places-append_odd}
 use Rattle.edge_words.specs.Stable.{at_odd_places, at_even_places, count_of, IsBalanced, IsStable}
 
 -- 1 for the letter itself, and 0 for another
 abbrev pub once : ℕ → ℕ → ℕ
 once x y = cond (y == x) 1 0
+
+-- one more element at the front
+pub count_of-cons : (x a : ℕ) (w : List ℕ) → count_of x (a ∷ w) ≡ once x a + count_of x w
+count_of-cons x a w = sum_by-cons (λ y. once x y) a w
 
 -- counts of two parts add
 pub count_of-append : (x : ℕ) (xs ys : List ℕ) → count_of x (xs ++ ys) ≡ count_of x xs + count_of x ys

@@ -1,12 +1,11 @@
 -- Rotations and reversals keep stability.
-use Rattle.std.proofs.Common.{◌≡◌, ℕ, ◌+◌, ◌%◌, List, [], ◌∷◌, ◌++◌, reverse, length, take, drop, inl, inr, sym, ◌∙◌, ap, subst, refl, arith, length-append}
+use Rattle.std.proofs.Common.{◌≡◌, ℕ, ◌%◌, List, [], ◌∷◌, ◌++◌, reverse, length, take, drop, inl, inr, sym, ◌∙◌, ap, subst, refl, arith, length-append}
 use Rattle.std.proofs.lemmas.Bool.{cases_lt}
 use Rattle.std.proofs.lemmas.Grind.{reverse_onto}
 use Rattle.std.proofs.lemmas.List.{length-reverse, take-append-drop}
-use Rattle.std.proofs.lemmas.List.Sums.{sum_by-cons}
 use Rattle.edge_words.specs.Canonical.{IsRotation, IsInBracelet, BraceletKeepsStability}
 use Rattle.edge_words.specs.Stable.{at_odd_places, at_even_places, count_of, IsBalanced}
-use Rattle.edge_words.proofs.Balance.{once, counts_even, counts_odd}
+use Rattle.edge_words.proofs.Balance.{count_of-cons, counts_even, counts_odd}
 use Rattle.edge_words.proofs.Bracelet.{bracelet_symmetric, length_in_bracelet}
 
 -- two parts may change places
@@ -23,10 +22,6 @@ rotation_balanced : (x : ℕ) (w v : List ℕ) → length w % 2 ≡ 0 → IsRota
 rotation_balanced x w v h turn balanced =
     let parts = take-append-drop turn.0 w in
     subst (IsBalanced x) (sym turn.2) (balanced_swap x (take turn.0 w) (drop turn.0 w) (ap (λ u. length u % 2) parts ∙ h) (subst (IsBalanced x) (sym parts) balanced))
-
--- one more element at the front
-count_of-cons : (x a : ℕ) (w : List ℕ) → count_of x (a ∷ w) ≡ once x a + count_of x w
-count_of-cons x a w = sum_by-cons (λ y. once x y) a w
 
 -- read backwards, odd and even places change
 counts_backwards : (x : ℕ) (w : List ℕ) → length w % 2 ≡ 0 → (count_of x (at_odd_places (reverse w)) ≡ count_of x (at_even_places w)) × (count_of x (at_even_places (reverse w)) ≡ count_of x (at_odd_places w))

@@ -3,7 +3,7 @@ use Rattle.std.proofs.Common.{◌≡◌, ℕ, ◌%◌, List, [], ◌∷◌, ◌+
 use Rattle.edge_words.specs.Stable.{at_odd_places, at_even_places}
 
 -- an element in front stands at an odd place, and moves each other one by a place
-places-cons : (a : ℕ) (ys : List ℕ) → (at_odd_places (a ∷ ys) ≡ a ∷ at_even_places ys) × (at_even_places (a ∷ ys) ≡ at_odd_places ys)
+pub places-cons : (a : ℕ) (ys : List ℕ) → (at_odd_places (a ∷ ys) ≡ a ∷ at_even_places ys) × (at_even_places (a ∷ ys) ≡ at_odd_places ys)
 places-cons a [] = (refl, refl)
 places-cons a (y ∷ ys) = (ap (λ zs. a ∷ zs) (sym (places-cons y ys).1), sym (places-cons y ys).0)
 

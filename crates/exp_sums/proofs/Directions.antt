@@ -8,7 +8,7 @@ use Rattle.std.specs.declared.cmp.Ordering.TheVariants.{Less, Equal, Greater}
 use Rattle.std.specs.Ordering.{is_eq}
 use Rattle.exp_sums.specs.declared.direction.Dir.{Dir}
 use Rattle.exp_sums.specs.Terms.{dir_cmp, is_same_dir}
-use Rattle.exp_sums.specs.Canonical.{same_dir, dir_is}
+use Rattle.exp_sums.proofs.Totals.{same_dir, dir_is}
 use Rattle.exp_sums.specs.FormalPoint.{dir_sum, dir_neg, zero_dir}
 
 -- ---- the laws of a commutative group

@@ -10,7 +10,8 @@ use Rattle.ring_solver.proofs.Whole.{ℤ_ring, ℤ_image}
 use Rattle.exp_sums.specs.declared.direction.Dir.{Dir}
 use Rattle.exp_sums.specs.declared.terms.Term.{Term}
 use Rattle.exp_sums.specs.Terms.{dir_cmp, total_at, is_canonical, cons_term, put_term, normal, put_terms}
-use Rattle.exp_sums.specs.Canonical.{cons_has, chosen, same_totals, is_canonical-put, is_canonical-normal}
+use Rattle.exp_sums.specs.Canonical.{cons_has, chosen, is_canonical-put, is_canonical-normal}
+use Rattle.exp_sums.proofs.Totals.{same_totals}
 use Rattle.exp_sums.specs.FormalPoint.{terms, point_of, terms-point_of, term_of, term_neg, monomial, zero_point, ◌+ₚ◌, negative}
 use Rattle.exp_sums.specs.Weigh.{weigh_terms}
 use Rattle.exp_sums.specs.Limits.{terms_weight, weight, IsWithinLimits, IsKept, greatest_weight}

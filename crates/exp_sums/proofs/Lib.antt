@@ -1,3 +1,4 @@
+pub mod Totals
 pub mod Directions
 pub mod Weigh
 pub mod SamePoint

@@ -2,19 +2,16 @@
 use Rattle.std.proofs.Common.{◌+◌, ◌≤◌, ℤ, arith}
 use Rattle.std.specs.Prelude.{unsigned_abs}
 use Rattle.exp_sums.specs.declared.direction.Dir.{Dir}
-use Rattle.exp_sums.specs.FormalPoint.{FormalPoint, monomial, zero_point, ◌+ₚ◌, ◌-ₚ◌, negative, conj}
+use Rattle.exp_sums.specs.FormalPoint.{FormalPoint, monomial, zero_point, ◌+ₚ◌, ◌-ₚ◌, conj}
 use Rattle.exp_sums.specs.Limits.{weight, IsNear, IsWithinLimits, greatest_weight, greatest_exponent}
-use Rattle.exp_sums.proofs.Weights.{weight-+ₚ, weight_difference, weight-monomial, weight-negative, weight-conj, weight-zero_point}
-use Rattle.exp_sums.proofs.Within.{IsWithin-+ₚ, IsWithin_difference, IsWithin-monomial, IsWithin-negative, IsWithin-conj, IsWithin-zero_point}
+use Rattle.exp_sums.proofs.Weights.{weight-+ₚ, weight_difference, weight-monomial, weight-conj, weight-zero_point}
+use Rattle.exp_sums.proofs.Within.{IsWithin-+ₚ, IsWithin_difference, IsWithin-monomial, IsWithin-conj, IsWithin-zero_point}
 
 pub limits-zero_point : IsWithinLimits zero_point
 limits-zero_point = record { near = IsWithin-zero_point greatest_exponent; light = omega (arith, weight-zero_point) }
 
 pub limits-monomial : (c : ℤ) (d : Dir) → IsNear greatest_exponent d → unsigned_abs c ≤ greatest_weight → IsWithinLimits (monomial c d)
 limits-monomial c d near light = record { near = IsWithin-monomial greatest_exponent c d near; light = omega (arith, weight-monomial c d, light) }
-
-pub limits-negative : (p : FormalPoint) → IsWithinLimits p → IsWithinLimits (negative p)
-limits-negative p h = record { near = IsWithin-negative greatest_exponent p h.near; light = omega (arith, weight-negative p, h.light) }
 
 pub limits-conj : (p : FormalPoint) → IsWithinLimits p → IsWithinLimits (conj p)
 limits-conj p h = record { near = IsWithin-conj greatest_exponent p h.near; light = omega (arith, weight-conj p, h.light) }

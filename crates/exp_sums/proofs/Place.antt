@@ -11,7 +11,8 @@ use Rattle.std.specs.Ordering.{ordering_index, ordering_reverse, is_lt}
 use Rattle.exp_sums.specs.declared.direction.Dir.{Dir}
 use Rattle.exp_sums.specs.declared.terms.Term.{Term}
 use Rattle.exp_sums.specs.Terms.{dir_cmp, total_at, is_before_all, is_canonical, cons_term, put_term}
-use Rattle.exp_sums.specs.Canonical.{dir_cmp_total, dir_is, same_dir, dir_after, is_less, is_not_zero, total_first, and_parts, canonical_parts, cons_has}
+use Rattle.exp_sums.specs.Canonical.{dir_cmp_total, dir_after, is_less, and_parts, canonical_parts, cons_has}
+use Rattle.exp_sums.proofs.Totals.{dir_is, same_dir, is_not_zero, total_first}
 use Rattle.exp_sums.specs.FormalPoint.{term_of}
 use Rattle.exp_sums.specs.Place.{IsPlaceOf, IsGapFor}
 

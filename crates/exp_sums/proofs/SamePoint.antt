@@ -6,7 +6,7 @@ use Rattle.ring_solver.proofs.Whole.{ℤ_ring, ℤ_image}
 use Rattle.exp_sums.specs.declared.direction.Dir.{Dir}
 use Rattle.exp_sums.specs.declared.terms.Term.{Term}
 use Rattle.exp_sums.specs.Terms.{is_same_dir, total_at}
-use Rattle.exp_sums.specs.Canonical.{same_totals, same_dir}
+use Rattle.exp_sums.proofs.Totals.{same_totals, same_dir}
 use Rattle.exp_sums.specs.FormalPoint.{FormalPoint, terms, terms_canonical, same_terms, coefficient, point_of, term_of, dir_sum, dir_neg, monomial, ◌+ₚ◌, negative, ◌*ₚ◌, conj}
 use Rattle.exp_sums.specs.Weigh.{weigh_terms, weigh_ints}
 use Rattle.exp_sums.proofs.Directions.{same_test, turned, turned_back, moved, moved_back}

@@ -1,8 +1,6 @@
 -- What sums over sine forms are, and so their coefficients, and which operations sine forms keep.
 use Rattle.std.proofs.Common.{◌≡◌, ◌≢◌, Bool, true, false, true≢false, List, [], ◌∷◌, ℤ, zero, suc, pos, negsuc, ◌+ℤ◌, ◌-ℤ◌, ◌*ℤ◌, neg_ℤ, if◌then◌else◌, refl, sym, ap, ap₂, ◌∙◌, arith}
 use Rattle.std.specs.List.{flat_map}
-use Rattle.std.specs.Prelude.{int_lt}
-use Rattle.std.proofs.lemmas.Bool.{or_parts}
 use Rattle.std.proofs.lemmas.Int.{ints}
 use Rattle.ring_solver.specs.Ring.{CommutativeRing, Image}
 use Rattle.ring_solver.specs.Expression.{num, ◌⊠◌, opp}
@@ -11,12 +9,12 @@ use Rattle.ring_solver.proofs.Whole.{ℤ_ring, ℤ_image}
 use Rattle.exp_sums.specs.declared.direction.Dir.{Dir}
 use Rattle.exp_sums.specs.declared.terms.Term.{Term}
 use Rattle.exp_sums.specs.Terms.{is_same_dir}
-use Rattle.exp_sums.specs.FormalPoint.{FormalPoint, terms, coefficient, dir_neg, zero_dir, ◌+ₚ◌, ◌-ₚ◌, negative}
+use Rattle.exp_sums.specs.FormalPoint.{FormalPoint, terms, coefficient, dir_neg}
 use Rattle.exp_sums.specs.Weigh.{weigh_terms, weigh, weigh_ints}
 use Rattle.exp_sums.specs.SineForm.{is_upper, term_turned, sine_terms, sine_form}
 use Rattle.exp_sums.proofs.Directions.{is_same_dir-Decides}
-use Rattle.exp_sums.proofs.Weigh.{weigh_terms-append, weigh-point_of, weigh-+ₚ, weigh-negative, weigh_same, weigh_scaled, weigh_summed}
-use Rattle.exp_sums.proofs.SamePoint.{only_at, only_turned, coefficient_is, same_by_weight}
+use Rattle.exp_sums.proofs.Weigh.{weigh_terms-append, weigh-point_of, weigh_same, weigh_scaled, weigh_summed}
+use Rattle.exp_sums.proofs.SamePoint.{only_at, only_turned, coefficient_is}
 
 -- ---- the half of the directions that is upper
 -- a direction and the one turned round are not both upper
@@ -29,17 +27,6 @@ turned_is_lower d h = by_numbers d.m d.n h
     by_numbers (pos zero) (negsuc n) h = absurd (true≢false (sym h))
     by_numbers (pos (suc m)) n h = refl
     by_numbers (negsuc m) n h = absurd (true≢false (sym h))
-
--- where neither is, it is the origin
-is_origin : (d : Dir) → is_upper d ≡ false → is_upper (dir_neg d) ≡ false → d ≡ zero_dir
-is_origin d h k = by_numbers d.m d.n h k
-  where
-    by_numbers : (m n : ℤ) → is_upper (record { m = m; n = n }) ≡ false → is_upper (record { m = neg_ℤ m; n = neg_ℤ n }) ≡ false → ◌≡◌ {A = Dir} (record { m = m; n = n }) zero_dir
-    by_numbers (pos zero) (pos zero) h k = refl
-    by_numbers (pos zero) (pos (suc n)) h k = absurd (omega (arith, ints, h))
-    by_numbers (pos zero) (negsuc n) h k = absurd (omega (arith, ints, k))
-    by_numbers (pos (suc m)) n h k = let positive = (or_parts (int_lt (pos 0) (pos (suc m))) _ h).0 in absurd (omega (arith, ints, positive))
-    by_numbers (negsuc m) n h k = let positive = (or_parts (int_lt (pos 0) (pos (suc m))) _ k).0 in absurd (omega (arith, ints, positive))
 
 -- an upper direction and another one that is not are different
 apart : (d e : Dir) → is_upper d ≢ is_upper e → only_at d e ≡ pos 0
@@ -79,33 +66,9 @@ module _ (K : CommutativeRing) (image : Image K) where
   unfolding sine_form
   weigh-sine_form f p = weigh-point_of K image f (flat_map sine_terms (terms p)) ∙ weigh_terms-sines f (terms p)
 
-  -- an odd function has the same sum over a point and over its sine form
-  pub weigh_odd : (f : Dir → K.Element) → ((d : Dir) → f (dir_neg d) ≡ K.neg (f d)) → f zero_dir ≡ K.whole 0 → (p : FormalPoint) → weigh K image f (sine_form p) ≡ weigh K image f p
-  weigh_odd f odd none p = weigh-sine_form f p ∙ weigh_same K image (on_half f) f (λ d. by_tests d (is_upper d) (is_upper (dir_neg d)) refl refl) p
-    where
-      by_tests : (d : Dir) (a b : Bool) → is_upper d ≡ a → is_upper (dir_neg d) ≡ b → (if a then f d else (if b then K.neg (f (dir_neg d)) else K.whole 0)) ≡ f d
-      by_tests d true b h k = refl
-      by_tests d false true h k = ap K.neg (odd d) ∙ ring₁ K (λ x. opp (opp x)) (λ x. x) refl (f d)
-      by_tests d false false h k = sym (ap f (is_origin d h k) ∙ none)
-
--- ---- sine forms of sums and negatives
+-- the same over the whole numbers
 in_ints : (f : Dir → ℤ) (p : FormalPoint) → weigh_ints f (sine_form p) ≡ weigh_ints (on_half ℤ_ring ℤ_image f) p
 in_ints = weigh-sine_form ℤ_ring ℤ_image
-
-pub sine_form-+ₚ : (p q : FormalPoint) → sine_form (p +ₚ q) ≡ sine_form p +ₚ sine_form q
-sine_form-+ₚ p q = same_by_weight _ _ (λ f.
-    in_ints f (p +ₚ q)
-    ∙ weigh-+ₚ ℤ_ring ℤ_image (on_half ℤ_ring ℤ_image f) p q
-    ∙ sym (weigh-+ₚ ℤ_ring ℤ_image f (sine_form p) (sine_form q) ∙ ap₂ ◌+ℤ◌ (in_ints f p) (in_ints f q)))
-
-pub sine_form-negative : (p : FormalPoint) → sine_form (negative p) ≡ negative (sine_form p)
-sine_form-negative p = same_by_weight _ _ (λ f.
-    in_ints f (negative p)
-    ∙ weigh-negative ℤ_ring ℤ_image (on_half ℤ_ring ℤ_image f) p
-    ∙ sym (weigh-negative ℤ_ring ℤ_image f (sine_form p) ∙ ap neg_ℤ (in_ints f p)))
-
-pub sine_form_difference : (p q : FormalPoint) → sine_form (p -ₚ q) ≡ sine_form p -ₚ sine_form q
-sine_form_difference p q = sine_form-+ₚ p (negative q) ∙ ap (λ r. sine_form p +ₚ r) (sine_form-negative q)
 
 -- ---- the coefficients of a sine form
 -- at an upper direction it counts that direction less the one turned round

@@ -3,25 +3,18 @@ use Rattle.std.proofs.Common.{◌≡◌, List, [], ◌∷◌, ◌++◌, map, ℤ
 use Rattle.std.specs.List.{flat_map}
 use Rattle.ring_solver.specs.Ring.{CommutativeRing, Image}
 use Rattle.ring_solver.specs.Expression.{num, ◌⊞◌, ◌⊠◌, opp}
+use Rattle.ring_solver.proofs.Polynomials.{zero-add', zero-mul', add_left_comm}
 use Rattle.ring_solver.proofs.Solver.{ring, ring₁, ring₃, ring₄, ring₅}
 use Rattle.exp_sums.specs.declared.direction.Dir.{Dir}
 use Rattle.exp_sums.specs.declared.terms.Term.{Term}
 use Rattle.exp_sums.specs.Terms.{dir_cmp, cons_term, put_term, normal}
-use Rattle.exp_sums.specs.Canonical.{cons_has, chosen, dir_is}
+use Rattle.exp_sums.specs.Canonical.{cons_has, chosen}
+use Rattle.exp_sums.proofs.Totals.{dir_is}
 use Rattle.exp_sums.specs.FormalPoint.{FormalPoint, terms, point_of, terms-point_of, term_of, term_neg, term_conj, term_product, dir_sum, dir_neg, zero_dir, monomial, zero_point, one_point, ◌+ₚ◌, negative, ◌*ₚ◌, conj}
 use Rattle.exp_sums.specs.Weigh.{weigh_terms, weigh}
 
 -- ---- steps in any ring
 module _ (K : CommutativeRing) where
-  zero-add : (x : K.Element) → K.add (K.whole 0) x ≡ x
-  zero-add x = ring₁ K (λ x. num 0 ⊞ x) (λ x. x) refl x
-
-  zero-mul : (x : K.Element) → K.mul (K.whole 0) x ≡ K.whole 0
-  zero-mul x = ring₁ K (λ x. num 0 ⊠ x) (λ x. num 0) refl x
-
-  add_swap : (x y z : K.Element) → K.add x (K.add y z) ≡ K.add y (K.add x z)
-  add_swap x y z = ring₃ K (λ x y z. x ⊞ (y ⊞ z)) (λ x y z. y ⊞ (x ⊞ z)) refl x y z
-
   add-mul-add : (a b x y : K.Element) → K.add (K.mul (K.add a b) x) y ≡ K.add (K.mul a x) (K.add (K.mul b x) y)
   add-mul-add a b x y = ring₄ K (λ a b x y. (a ⊞ b) ⊠ x ⊞ y) (λ a b x y. a ⊠ x ⊞ (b ⊠ x ⊞ y)) refl a b x y
 
@@ -43,7 +36,7 @@ module _ (K : CommutativeRing) where
 module _ (K : CommutativeRing) (image : Image K) where
   -- ---- sums over lists of terms
   pub weigh_terms-append : (f : Dir → K.Element) (ts us : List Term) → weigh_terms K image f (ts ++ us) ≡ K.add (weigh_terms K image f ts) (weigh_terms K image f us)
-  weigh_terms-append f [] us = sym (zero-add K (weigh_terms K image f us))
+  weigh_terms-append f [] us = sym (zero-add' K (weigh_terms K image f us))
   weigh_terms-append f (t ∷ ts) us =
       ap (K.add (K.mul (image.of t.c) (f t.dir))) (weigh_terms-append f ts us)
       ∙ sym (K.add_assoc (K.mul (image.of t.c) (f t.dir)) (weigh_terms K image f ts) (weigh_terms K image f us))
@@ -52,7 +45,7 @@ module _ (K : CommutativeRing) (image : Image K) where
   weigh_terms-cons_term f t ts =
       cons_has (λ us. weigh_terms K image f us ≡ K.add (K.mul (image.of t.c) (f t.dir)) (weigh_terms K image f ts)) t ts
       (λ _. refl)
-      (λ (is : t.c ≡ pos 0). rw is (rw (image.of-pos 0) (rw (zero-mul K (f t.dir)) (sym (zero-add K (weigh_terms K image f ts))))))
+      (λ (is : t.c ≡ pos 0). rw is (rw (image.of-pos 0) (rw (zero-mul' K (f t.dir)) (sym (zero-add' K (weigh_terms K image f ts))))))
 
   pub weigh_terms-put : (f : Dir → K.Element) (t : Term) (us : List Term) → weigh_terms K image f (put_term t us) ≡ K.add (K.mul (image.of t.c) (f t.dir)) (weigh_terms K image f us)
   weigh_terms-put f t [] = weigh_terms-cons_term f t []
@@ -65,7 +58,7 @@ module _ (K : CommutativeRing) (image : Image K) where
       ∙ ap (λ a. K.add (K.mul a (f u.dir)) rest) (image.of-add t.c u.c)
       ∙ add-mul-add K (image.of t.c) (image.of u.c) (f u.dir) rest
       ∙ ap (λ d. K.add (K.mul (image.of t.c) (f d)) (weigh_terms K image f (u ∷ us))) (sym (dir_is t.dir u.dir equal)))
-      (λ _. ap (K.add (K.mul (image.of u.c) (f u.dir))) (weigh_terms-put f t us) ∙ add_swap K (K.mul (image.of u.c) (f u.dir)) (K.mul (image.of t.c) (f t.dir)) rest)
+      (λ _. ap (K.add (K.mul (image.of u.c) (f u.dir))) (weigh_terms-put f t us) ∙ add_left_comm K (K.mul (image.of u.c) (f u.dir)) (K.mul (image.of t.c) (f t.dir)) rest)
 
   -- the canonical form keeps each sum
   weigh_terms-normal : (f : Dir → K.Element) (ts : List Term) → weigh_terms K image f (normal ts) ≡ weigh_terms K image f ts
@@ -74,14 +67,14 @@ module _ (K : CommutativeRing) (image : Image K) where
 
   -- a common factor
   weigh_terms_scaled : (f : Dir → K.Element) (a : K.Element) (ts : List Term) → weigh_terms K image (λ d. K.mul a (f d)) ts ≡ K.mul a (weigh_terms K image f ts)
-  weigh_terms_scaled f a [] = sym (K.mul_comm a (K.whole 0) ∙ zero-mul K a)
+  weigh_terms_scaled f a [] = sym (K.mul_comm a (K.whole 0) ∙ zero-mul' K a)
   weigh_terms_scaled f a (t ∷ ts) =
       ap (K.add (K.mul (image.of t.c) (K.mul a (f t.dir)))) (weigh_terms_scaled f a ts)
       ∙ mul-mul-add K (image.of t.c) a (f t.dir) (weigh_terms K image f ts)
 
   -- a sum of two weights
   weigh_terms_summed : (f g : Dir → K.Element) (ts : List Term) → weigh_terms K image (λ d. K.add (f d) (g d)) ts ≡ K.add (weigh_terms K image f ts) (weigh_terms K image g ts)
-  weigh_terms_summed f g [] = sym (zero-add K (K.whole 0))
+  weigh_terms_summed f g [] = sym (zero-add' K (K.whole 0))
   weigh_terms_summed f g (t ∷ ts) =
       ap (K.add (K.mul (image.of t.c) (K.add (f t.dir) (g t.dir)))) (weigh_terms_summed f g ts)
       ∙ mul-add-add K (image.of t.c) (f t.dir) (g t.dir) (weigh_terms K image f ts) (weigh_terms K image g ts)
@@ -89,7 +82,7 @@ module _ (K : CommutativeRing) (image : Image K) where
   weigh_terms_zero : (ts : List Term) → weigh_terms K image (λ d. K.whole 0) ts ≡ K.whole 0
   weigh_terms_zero [] = refl
   weigh_terms_zero (t ∷ ts) =
-      ap (K.add (K.mul (image.of t.c) (K.whole 0))) (weigh_terms_zero ts) ∙ K.add-zero (K.mul (image.of t.c) (K.whole 0)) ∙ K.mul_comm (image.of t.c) (K.whole 0) ∙ zero-mul K (image.of t.c)
+      ap (K.add (K.mul (image.of t.c) (K.whole 0))) (weigh_terms_zero ts) ∙ K.add-zero (K.mul (image.of t.c) (K.whole 0)) ∙ K.mul_comm (image.of t.c) (K.whole 0) ∙ zero-mul' K (image.of t.c)
 
   -- two sums change places
   weigh_terms_exchanged : (f : Dir → Dir → K.Element) (ts us : List Term) → weigh_terms K image (λ d. weigh_terms K image (f d) us) ts ≡ weigh_terms K image (λ e. weigh_terms K image (λ d. f d e) ts) us
@@ -108,7 +101,7 @@ module _ (K : CommutativeRing) (image : Image K) where
 
   -- one term times a list
   weigh_terms-times : (f : Dir → K.Element) (t : Term) (us : List Term) → weigh_terms K image f (map (term_product t) us) ≡ K.mul (image.of t.c) (weigh_terms K image (λ e. f (dir_sum t.dir e)) us)
-  weigh_terms-times f t [] = sym (K.mul_comm (image.of t.c) (K.whole 0) ∙ zero-mul K (image.of t.c))
+  weigh_terms-times f t [] = sym (K.mul_comm (image.of t.c) (K.whole 0) ∙ zero-mul' K (image.of t.c))
   weigh_terms-times f t (u ∷ us) =
       rw (image.of-mul t.c u.c) (rw (weigh_terms-times f t us) (mul_assoc-add K (image.of t.c) (image.of u.c) (f (dir_sum t.dir u.dir)) (weigh_terms K image (λ e. f (dir_sum t.dir e)) us)))
 
@@ -127,7 +120,7 @@ module _ (K : CommutativeRing) (image : Image K) where
   weigh-monomial f c d = weigh-point_of f (term_of c d ∷ []) ∙ K.add-zero (K.mul (image.of c) (f d))
 
   pub weigh-zero_point : (f : Dir → K.Element) → weigh K image f zero_point ≡ K.whole 0
-  weigh-zero_point f = weigh-monomial f (pos 0) zero_dir ∙ ap (λ a. K.mul a (f zero_dir)) (image.of-pos 0) ∙ zero-mul K (f zero_dir)
+  weigh-zero_point f = weigh-monomial f (pos 0) zero_dir ∙ ap (λ a. K.mul a (f zero_dir)) (image.of-pos 0) ∙ zero-mul' K (f zero_dir)
 
   pub weigh-one_point : (f : Dir → K.Element) → weigh K image f one_point ≡ f zero_dir
   weigh-one_point f = weigh-monomial f (pos 1) zero_dir ∙ ap (λ a. K.mul a (f zero_dir)) (image.of-pos 1) ∙ ring₁ K (λ x. num 1 ⊠ x) (λ x. x) refl (f zero_dir)

@@ -111,7 +111,3 @@ weight-monomial c d = omega (arith, weight-monomial_le c d, coefficient_le_weigh
 
 pub weight-zero_point : weight zero_point ≡ 0
 weight-zero_point = weight-monomial (pos 0) zero_dir
-
--- a term more weighs at most its coefficient more
-pub weight_added : (p : FormalPoint) (c : ℤ) (d : Dir) → weight (p +ₚ monomial c d) ≤ weight p + unsigned_abs c
-weight_added p c d = omega (arith, weight-+ₚ p (monomial c d), weight-monomial c d)

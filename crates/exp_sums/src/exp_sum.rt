@@ -1,5 +1,5 @@
 //! Finite sums of directions.
-ghost use Rattle.std.specs.Prelude.{◌≡◌, ◌+◌, ◌*◌, ◌≤◌, pos, OnOk, OnErr, IfOk};
+ghost use Rattle.std.specs.Prelude.{◌≡◌, ◌+◌, ◌*◌, ◌<◌, ◌≤◌, pos, length, IsOk, OnOk, OnErr, IfOk};
 ghost use Rattle.exp_sums.specs.FormalPoint.{FormalPoint, formal_point_code, point_of, terms, coefficient, zero_point, monomial, ◌+ₚ◌, ◌-ₚ◌, ◌*ₚ◌, conj};
 ghost use Rattle.exp_sums.specs.SineForm.{sine_form};
 ghost use Rattle.exp_sums.specs.Reach.{reach};
@@ -9,7 +9,7 @@ ghost use Rattle.exp_sums.specs.Limits.{IsKept, IsWithinLimits, weight, greatest
 use crate::direction::Dir;
 use crate::products::put_products;
 use crate::sizes::{reach_of, weight_of};
-use crate::terms::{Term, Terms, place_of, put, put_all, put_all_negated};
+use crate::terms::{Term, Terms, make_room, place_of, put, put_all, put_all_negated};
 use crate::turns::{put_all_conj, put_all_sines};
 use smallvec::SmallVec;
 use std::alloc::{AllocError as OutOfMemory, Global};
@@ -63,13 +63,14 @@ impl ExpSum {
         }
     }
 
-    /// Adds `c` times a direction. Without memory for one more term the sum stays as it was.
+    /// Adds `c` times a direction. Without memory for one more term the sum stays as it was. Up to eight terms take none.
     pub fn add_dir(&mut self, dir: Dir, c: i64) -> Result<(), OutOfMemory>
         requires { IsWithinLimits (self.old +ₚ monomial c dir) }
         ensures ok { OnOk result (self.new ≡ self.old +ₚ monomial c dir) }
         ensures err { OnErr result (self.new ≡ self.old) }
+        ensures inline { length (terms self.old) < 8 → IsOk result }
     {
-        self.terms.reserve(1)?;
+        make_room(&mut self.terms)?;
         put(&mut self.terms, Term { dir, c });
         Ok(())
     }

@@ -1,5 +1,5 @@
 //! The terms of a sum, sorted by their directions, and the edits that keep them so.
-ghost use Rattle.std.specs.Prelude.{◌≡◌, ◌+◌, ◌≤◌, ◌^◌, ◌+ℤ◌, FitsSigned, T, IfOk, IfErr, length, map};
+ghost use Rattle.std.specs.Prelude.{◌≡◌, ◌+◌, ◌<◌, ◌≤◌, ◌^◌, ◌+ℤ◌, FitsSigned, T, IsOk, OnOk, OnErr, IfOk, IfErr, length, map};
 ghost use Rattle.std.specs.Int.{w64};
 ghost use Rattle.smallvec.specs.SmallVec.{small_vec_len, HasRoomFor};
 ghost use Rattle.exp_sums.specs.Terms.{is_canonical, total_at, put_term, put_terms};
@@ -9,6 +9,7 @@ ghost use Rattle.exp_sums.specs.Place.{IsPlaceOf, IsGapFor};
 
 use crate::direction::Dir;
 use smallvec::SmallVec;
+use std::alloc::AllocError as OutOfMemory;
 
 /// One term of a sum: a whole multiple of a direction.
 #[derive(Clone, Copy, Debug, PartialEq, Eq, Default, Drop)]
@@ -35,6 +36,19 @@ pub fn place_of(terms: &[Term], dir: Dir) -> Result<usize, usize>
     ensures absent { IfErr result (IsGapFor terms.now dir) }
 {
     terms.binary_search_by_key(&dir, |term| term.dir)
+}
+
+/// Takes room for one more term, of which there is some while all terms lie in the value itself.
+pub fn make_room(terms: &mut Terms) -> Result<(), OutOfMemory>
+    ensures items { terms.new.items ≡ terms.old.items }
+    ensures room { OnOk result (HasRoomFor terms.new 1) }
+    ensures err { OnErr result (terms.new ≡ terms.old) }
+    ensures inline { small_vec_len terms.old < 8 → IsOk result }
+{
+    if terms.len() < terms.capacity() {
+        return Ok(());
+    }
+    terms.reserve(1)
 }
 
 /// Adds a term, for which there is room.

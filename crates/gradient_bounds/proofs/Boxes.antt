@@ -95,10 +95,6 @@ shut_gives_no_corridor_lem w box e positive shut p within corridor =
 
 -- ---- balls
 
--- the ball of a box
-abbrev pub box_ball : Square → Ball
-box_ball box = record { x = (centre box).x; y = (centre box).y; radius = half_side box }
-
 -- and that of a point, where the drift is 0
 abbrev pub point_ball : ℚ → ℚ → Ball
 point_ball x y = record { x = x; y = y; radius = whole 0 }

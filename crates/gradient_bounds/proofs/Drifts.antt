@@ -25,6 +25,7 @@ use Rattle.defining_functions.specs.Functions.{IsWithinFunctionLimits}
 use Rattle.gradient_bounds.specs.Clear.{slack}
 use Rattle.gradient_bounds.specs.Region.{threshold_of}
 use Rattle.gradient_bounds.proofs.Margins.{slack_units}
+use Rattle.gradient_bounds.proofs.Turning.{fits_128}
 
 -- ---- radii
 
@@ -107,9 +108,6 @@ drift_near bits L H D r w p d s h pi =
     (add_mono ((s *ℚ t) *ℚ whole (2 ^ bits)) (whole (260 * w) +ℚ whole 1) (whole (260 * w + 1)) room)
 
 -- ---- sizes
-
-fits_128 : (z : ℤ) → unsigned_abs z ≤ 2 ^ 120 → FitsSigned w128 z
-fits_128 z h = fits_signed_from_abs w128 z (omega arith)
 
 -- pi in units, reach and radius, and their product
 pub record IsDividend (H R p : ℤ) : Type 0 where

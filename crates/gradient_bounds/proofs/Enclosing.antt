@@ -8,7 +8,7 @@ use Rattle.ring_solver.specs.Expression.{num, ◌⊞◌, ◌⊠◌, opp}
 use Rattle.ring_solver.specs.Ordered.{times}
 use Rattle.ring_solver.proofs.Solver.{ring₁}
 use Rattle.ring_solver.proofs.Certificate.{le₃, le₄}
-use Rattle.ring_solver.proofs.Whole.{ℤ_ordered}
+use Rattle.ring_solver.proofs.Whole.{ℤ_ordered, pos_le}
 use Rattle.rat_core.specs.Fraction.{ℚ, ◌÷◌, whole, ◌+ℚ◌, ◌*ℚ◌, ◌≤ℚ◌}
 use Rattle.rat_core.proofs.Laws.{ℚ_ring, ℚ_image, add-zero, le_refl}
 use Rattle.exp_sums.specs.declared.direction.Dir.{Dir}
@@ -38,18 +38,12 @@ spread_down a b c h k = omega (arith, ints, clamps)
 pub multiple_width : (c : ℤ) (x : Ends) (w : ℕ) → x.lo ≤ℤ x.hi → x.hi ≤ℤ (x.lo +ℤ pos w) → (multiple_of c x).hi ≤ℤ ((multiple_of c x).lo +ℤ pos (w * unsigned_abs c))
 multiple_width (pos k) x w order narrow =
     spread_up (pos k *ℤ x.lo) (pos k *ℤ x.hi) (w * k)
-    (le₃ ℤ_ordered (λ k l h. k ⊠ l) (λ k l h. k ⊠ h) (λ k l h. times k l h ∷ []) refl (pos k) x.lo x.hi (nonneg k, order, tt))
-    (le₄ ℤ_ordered (λ k l h w. k ⊠ h) (λ k l h w. k ⊠ l ⊞ w ⊠ k) (λ k l h w. times k h (l ⊞ w) ∷ []) refl (pos k) x.lo x.hi (pos w) (nonneg k, narrow, tt))
-  where
-    nonneg : (k : ℕ) → pos 0 ≤ℤ pos k
-    nonneg k = omega (arith, ints)
+    (le₃ ℤ_ordered (λ k l h. k ⊠ l) (λ k l h. k ⊠ h) (λ k l h. times k l h ∷ []) refl (pos k) x.lo x.hi (pos_le 0 k (omega arith), order, tt))
+    (le₄ ℤ_ordered (λ k l h w. k ⊠ h) (λ k l h w. k ⊠ l ⊞ w ⊠ k) (λ k l h w. times k h (l ⊞ w) ∷ []) refl (pos k) x.lo x.hi (pos w) (pos_le 0 k (omega arith), narrow, tt))
 multiple_width (negsuc k) x w order narrow =
     spread_down (negsuc k *ℤ x.lo) (negsuc k *ℤ x.hi) (w * suc k)
-    (le₃ ℤ_ordered (λ c l h. c ⊠ h) (λ c l h. c ⊠ l) (λ c l h. times (opp c) l h ∷ []) refl (negsuc k) x.lo x.hi (nonneg (suc k), order, tt))
-    (le₄ ℤ_ordered (λ c l h w. c ⊠ l) (λ c l h w. c ⊠ h ⊞ w ⊠ opp c) (λ c l h w. times (opp c) h (l ⊞ w) ∷ []) refl (negsuc k) x.lo x.hi (pos w) (nonneg (suc k), narrow, tt))
-  where
-    nonneg : (k : ℕ) → pos 0 ≤ℤ pos k
-    nonneg k = omega (arith, ints)
+    (le₃ ℤ_ordered (λ c l h. c ⊠ h) (λ c l h. c ⊠ l) (λ c l h. times (opp c) l h ∷ []) refl (negsuc k) x.lo x.hi (pos_le 0 (suc k) (omega arith), order, tt))
+    (le₄ ℤ_ordered (λ c l h w. c ⊠ l) (λ c l h w. c ⊠ h ⊞ w ⊠ opp c) (λ c l h w. times (opp c) h (l ⊞ w) ∷ []) refl (negsuc k) x.lo x.hi (pos w) (pos_le 0 (suc k) (omega arith), narrow, tt))
 
 pub multiple_size : (c : ℤ) (x : Ends) (m : ℕ) → IsWithin m x → IsWithin (unsigned_abs c * m) (multiple_of c x)
 multiple_size c x m h =

@@ -11,7 +11,7 @@ use Rattle.exp_sums.specs.FormalPoint.{FormalPoint, zero_point}
 use Rattle.unfolding.specs.Shift.{IsShift, HasShift}
 use Rattle.unfolding.specs.Triangle.{mirrors}
 use Rattle.unfolding.proofs.Shifts.{shift_from_stable, same_shift}
-use Rattle.defining_functions.specs.Functions.{defining_function, IsWithinFunctionLimits}
+use Rattle.defining_functions.specs.Functions.{defining_function}
 use Rattle.defining_functions.specs.Tables.{IsTable}
 use Rattle.gradient_bounds.specs.Corridor.{EachFunction}
 use Rattle.gradient_bounds.specs.Kept.{IsFunctionOf, IsRow, AreRows, IsPrepared}
@@ -33,9 +33,6 @@ all_of_table {A} IsEntry P n xs d h f =
     (λ i below.
     let inside : i < n = omega (arith, below, h.count) in
     f i (slice_index_or xs i d) inside (h.each i d inside))
-
-pub row_within_limits : (w : List ℕ) (k : ℕ) (row : List FormalPoint) → IsRow w k row → All IsWithinFunctionLimits row
-row_within_limits w k row h = all_of_table (λ j f. IsFunctionOf w k (j + 1) f) IsWithinFunctionLimits (length w) row zero_point h (λ i f below is. is.limits)
 
 -- a place, from the index
 place_of : (w : List ℕ) (i : ℕ) → i < length w → IsPlace w (i + 1)

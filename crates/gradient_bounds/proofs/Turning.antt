@@ -7,11 +7,12 @@ use Rattle.std.proofs.lemmas.Grind.{pow_more}
 use Rattle.std.proofs.lemmas.Int.{ints, to_z-of_z, fits_signed_from_abs}
 use Rattle.ring_solver.specs.Expression.{◌⊞◌, ◌⊠◌}
 use Rattle.ring_solver.proofs.Solver.{ring₅}
-use Rattle.ring_solver.proofs.Whole.{*ℤ_mono}
+use Rattle.ring_solver.proofs.Whole.{pos_le, *ℤ_mono}
 use Rattle.rat_core.specs.Fraction.{ℚ, ◌÷◌, whole, ◌+ℚ◌, ◌*ℚ◌, ◌<ℚ◌}
 use Rattle.rat_core.specs.Written.{Written, value}
 use Rattle.rat_core.proofs.Laws.{ℚ_ring, over-mul, over-add, over_lt_back, int-add, int-mul}
 use Rattle.rat_core.proofs.Order.{cancel, over_common}
+use Rattle.rat_core.proofs.Compare.{small_fits, product_fits}
 use Rattle.directed_fixed.proofs.Rounding.{product_size}
 use Rattle.exp_sums.specs.declared.direction.Dir.{Dir}
 use Rattle.exp_sums.specs.Limits.{IsNear}
@@ -57,7 +58,7 @@ common_angles X Y d e p q d_small e_small first second third =
     record {
       angles = record {
         positive = at_least_one (d * e) positive;
-        small = at_most (d * e) (2 ^ 40) (omega arith);
+        small = pos_le (d * e) (2 ^ 40) (omega arith);
         first = first_product;
         second = second_product;
         first_within = first_at_most (X *ℤ pos e) (Y *ℤ pos d) (d * e) second_product below;
@@ -69,9 +70,6 @@ common_angles X Y d e p q d_small e_small first second third =
   where
     at_least_one : (n : ℕ) → 0 < n → pos 1 ≤ℤ pos n
     at_least_one n h = omega (arith, ints)
-
-    at_most : (n m : ℕ) → n ≤ m → pos n ≤ℤ pos m
-    at_most n m h = omega (arith, ints)
 
     first_at_most : (y z : ℤ) (n : ℕ) → pos 0 ≤ℤ z → ((y +ℤ z) *ℤ pos 1) <ℤ (pos 1 *ℤ pos n) → y ≤ℤ pos n
     first_at_most y z n k h = omega (arith, ints)
@@ -85,12 +83,6 @@ common_angles X Y d e p q d_small e_small first second third =
 -- the same for numbers that are those
 common_at : (x_num y_num x_den y_den X Y : ℤ) (d e : ℕ) → x_num ≡ X → y_num ≡ Y → x_den ≡ pos d → y_den ≡ pos e → IsCommon (X ÷ d) (Y ÷ e) (common X Y (pos d) (pos e)) → IsCommon (X ÷ d) (Y ÷ e) (common x_num y_num x_den y_den)
 common_at x_num y_num x_den y_den X Y d e p q r s h = subst (IsCommon (X ÷ d) (Y ÷ e)) (sym (λ i. common (p i) (q i) (r i) (s i))) h
-
-small_fits : (z : ℤ) → unsigned_abs z < 2 ^ 60 → FitsSigned w128 z
-small_fits z h = fits_signed_from_abs w128 z (omega arith)
-
-product_fits : (a b : ℤ) → unsigned_abs a < 2 ^ 60 → unsigned_abs b < 2 ^ 60 → FitsSigned w128 (a *ℤ b)
-product_fits a b h k = fits_signed_from_abs w128 (a *ℤ b) (omega (arith, product_size a b (2 ^ 60) (2 ^ 60) (omega arith) (omega arith)))
 
 -- a number as the machine keeps it
 abbrev pub kept : ℤ → ℤ
@@ -160,7 +152,7 @@ small_turn m n a h k angles =
     let second_small : unsigned_abs (n *ℤ a.second) ≤ 2 ^ 51 = omega arith in
     record { first = first_small; second = second_small; all = sum_size (m *ℤ a.first) (n *ℤ a.second) first_small second_small }
 
-fits_128 : (z : ℤ) → unsigned_abs z ≤ 2 ^ 120 → FitsSigned w128 z
+pub fits_128 : (z : ℤ) → unsigned_abs z ≤ 2 ^ 120 → FitsSigned w128 z
 fits_128 z h = fits_signed_from_abs w128 z (omega arith)
 
 fits_32 : (z : ℤ) → unsigned_abs z ≤ 130 → FitsSigned w32 z
@@ -220,16 +212,13 @@ box_angles i j level deep column row =
     let double : 2 ^ (level + 1) ≡ 2 ^ level * 2 = pow_more 2 level in
     let positive : 0 < 2 ^ (level + 1) = pow_pos (level + 1) in
     record {
-      positive = ordered 1 (2 ^ (level + 1)) (omega arith);
-      small = ordered (2 ^ (level + 1)) (2 ^ 40) small;
-      first = ordered 0 (2 * i + 1) (omega arith);
-      second = ordered 0 (2 * j + 1) (omega arith);
-      first_within = ordered (2 * i + 1) (2 ^ (level + 1)) (omega arith);
-      second_within = ordered (2 * j + 1) (2 ^ (level + 1)) (omega arith);
+      positive = pos_le 1 (2 ^ (level + 1)) (omega arith);
+      small = pos_le (2 ^ (level + 1)) (2 ^ 40) small;
+      first = pos_le 0 (2 * i + 1) (omega arith);
+      second = pos_le 0 (2 * j + 1) (omega arith);
+      first_within = pos_le (2 * i + 1) (2 ^ (level + 1)) (omega arith);
+      second_within = pos_le (2 * j + 1) (2 ^ (level + 1)) (omega arith);
     }
-  where
-    ordered : (m n : ℕ) → m ≤ n → pos m ≤ℤ pos n
-    ordered m n h = omega (arith, ints)
 
 -- the same for numbers that are those, as the machine keeps them
 pub box_angles_kept : (i j level : ℕ) (x y d : ℤ) → level ≤ 20 → i < 2 ^ level → j < 2 ^ level → x ≡ pos (2 * i + 1) → y ≡ pos (2 * j + 1) → d ≡ pos (2 ^ (level + 1)) → IsAngles (record { first = kept x; second = kept y; den = kept d })

@@ -1,3 +1,4 @@
+pub mod Sought
 pub mod Digits
 pub mod Filling
 pub mod Handed

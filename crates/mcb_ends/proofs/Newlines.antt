@@ -1,26 +1,13 @@
 -- Where the first newline stands among the first 81 bytes.
-use Rattle.std.proofs.Common.{◌≡◌, ℕ, suc, ◌+◌, ◌<◌, ◌≤◌, Bool, true, false, not, cond, List, ◌∷◌, ◌++◌, length, take, drop, get_or, Some, None, ◌==◌, nat_lt, sym, ap, ◌∙◌, arith, take-append-drop, drop-cons, length-take, refl, add-one}
-use Rattle.std.proofs.lemmas.Bool.{eqb-true, ltb-false}
+use Rattle.std.proofs.Common.{◌≡◌, inl, inr, ℕ, suc, ◌+◌, ◌<◌, ◌≤◌, List, ◌∷◌, ◌++◌, length, take, drop, get_or, Some, None, ◌==◌, sym, ap, ◌∙◌, arith, take-append-drop, drop-cons, length-take, add-one, subst, Contains}
+use Rattle.std.proofs.lemmas.Bool.{eqb-true}
 use Rattle.std.proofs.lemmas.List.{get_or-take}
 use Rattle.std.proofs.lemmas.List.Quantifiers.{position-Some}
-use Rattle.std.proofs.lemmas.List.Sums.{prefix_len_passes}
-use Rattle.std.specs.List.{position, position_or_len}
+use Rattle.std.specs.List.{position}
 use Rattle.std.specs.declared.option.Option.{Option}
 use Rattle.mcb_ends.specs.Lines.{HasNoNewline, IsShortLine, newline}
-
--- a choice that gives nothing chose by false
-chose_false : (b : Bool) (n : ℕ) → cond b (Some n) None ≡ None → b ≡ false
-chose_false true n is = cc
-chose_false false n is = refl
-
--- no newline among bytes where none is found
-no_place : (bytes : List ℕ) → position (λ byte. byte == newline) bytes ≡ None → HasNoNewline bytes
-no_place bytes is k d within at =
-    let place = position_or_len (λ (byte : ℕ). byte == newline) bytes in
-    let late : length bytes ≤ place = ltb-false place (length bytes) (chose_false (nat_lt place (length bytes)) place is) in
-    let passes = prefix_len_passes (λ (byte : ℕ). not (byte == newline)) bytes k d (omega arith) in
-    let no = rw at at passes in
-    cc
+use Rattle.mcb_ends.specs.Reader.{Reader, IsInHand}
+use Rattle.mcb_ends.proofs.Sought.{no_place}
 
 -- a newline that is found stands behind a short line
 pub record Stands (bytes : List ℕ) (len : ℕ) : Type 0 where
@@ -57,4 +44,11 @@ pub one_found : (bytes shown : List ℕ) (found : Option ℕ) (len : ℕ) → sh
 one_found bytes shown found len same is at = place_stands bytes len (place_of bytes shown found (Some len) same is at)
 
 pub none_found : (bytes shown : List ℕ) (found : Option ℕ) → shown ≡ bytes → found ≡ position (λ byte. byte == newline) (take 81 shown) → found ≡ None → HasNoNewline (take 81 bytes)
-none_found bytes shown found same is at = no_place (take 81 bytes) (place_of bytes shown found None same is at)
+none_found bytes shown found same is at = no_place newline (take 81 bytes) (place_of bytes shown found None same is at)
+
+-- no newline among the first 81 bytes and at most 80 of them: what stands next is not in hand
+pub not_in_hand : (reader : Reader) (held : List ℕ) → held ≡ reader.held → HasNoNewline (take 81 held) → length held ≤ 80 → IsInHand reader → ⊥
+not_in_hand reader held same none short (inl found) =
+    let there = subst (λ (xs : List ℕ). Contains (take 81 xs) newline) (sym same) found in
+    none there.0 newline there.1 there.2
+not_in_hand reader held same none short (inr long) = omega (arith, short, long, ap length same)

@@ -7,7 +7,6 @@ use Rattle.std.proofs.lemmas.List.Elements.{All-tail}
 use Rattle.std.specs.List.{position}
 use Rattle.std.specs.declared.option.Option.{Option}
 use Rattle.mcb_ends.specs.Lines.{Next, Text, TooLong, CutShort, End, IsNext, HasNoNewline, IsShortLine, newline}
-use Rattle.mcb_ends.specs.Reader.{Takes}
 use Rattle.mcb_ends.proofs.Newlines.{one_found, none_found}
 
 -- a line that ends within the first bytes has its newline among them
@@ -79,15 +78,3 @@ found_exists bytes (Some len) is =
 
 pub IsNext-exists : (bytes : List ℕ) → (next : Next) × (rest : List ℕ) × IsNext bytes next rest
 IsNext-exists bytes = found_exists bytes (position (λ byte. byte == newline) (take 81 bytes)) refl
-
--- where bytes are told, what was taken from them stands next in them
-pub Takes-told : (bytes : List ℕ) (next : Next) (after : Option (List ℕ)) → Takes (Some bytes) next after → (rest : List ℕ) × (after ≡ Some rest) × IsNext bytes next rest
-Takes-told bytes next None takes = absurd takes
-Takes-told bytes next (Some rest) takes = (rest, refl, takes)
-
--- what stands next in told bytes is what is taken from them
-pub Takes-next : (bytes : List ℕ) (a b : Next) (rest : List ℕ) (after : Option (List ℕ)) → IsNext bytes a rest → Takes (Some bytes) b after → (b ≡ a) × (after ≡ Some rest)
-Takes-next bytes a b rest None is takes = absurd takes
-Takes-next bytes a b rest (Some rest') is takes =
-    let same = IsNext-unique bytes b a rest' rest takes is in
-    (same.0, ap (λ (xs : List ℕ). Some xs) same.1)

@@ -1,12 +1,12 @@
 -- What a reader of lines has before it while it reads.
 use Rattle.std.proofs.Common.{◌≡◌, ℕ, ◌+◌, ◌<◌, ◌≤◌, true, false, List, [], ◌∷◌, ◌++◌, length, take, Some, None, refl, sym, ap, ◌∙◌, subst, arith, length-append, append_assoc, append-nil}
-use Rattle.std.proofs.KnownBytes.{Consumes-nil, Consumes-trans, Consumes-kept}
+use Rattle.std.proofs.KnownBytes.{Consumes-trans, Consumes-kept}
 use Rattle.std.proofs.lemmas.List.{take-append-le, take_all, nil_from_length}
 use Rattle.std.specs.Io.KnownBytes.{prepend_known, Consumes, Keeps, IsAtEnd}
 use Rattle.std.specs.declared.option.Option.{Option}
 use Rattle.mcb_ends.specs.Advance.{Fills}
-use Rattle.mcb_ends.specs.Lines.{Next, Text, TooLong, CutShort, End, HasNoNewline, IsShortLine, newline, is_text}
-use Rattle.mcb_ends.specs.Reader.{Reader, Takes, IsLine, HasEnded, HandsOut, IsUnchanged, ReadsOneBuffer}
+use Rattle.mcb_ends.specs.Lines.{Next, Text, TooLong, CutShort, HasNoNewline, IsShortLine, newline, is_text}
+use Rattle.mcb_ends.specs.Reader.{Reader, Takes, IsLine, HasEnded, HandsOut, ReadsOneBuffer}
 use Rattle.mcb_ends.proofs.Newlines.{Stands}
 
 -- the held bytes grew by bytes of the source
@@ -14,9 +14,6 @@ pub record Grown (old new : List ℕ) (left left' : Option (List ℕ)) : Type 0 
   pub more : List ℕ
   pub held : new ≡ old ++ more
   pub source : Consumes left left' more
-
-pub Grown-none : (held : List ℕ) (left : Option (List ℕ)) → Grown held held left left
-Grown-none held left = record { more = []; held = sym (append-nil held); source = Consumes-nil left }
 
 pub Grown-fills : (old mid new : List ℕ) (a b c : Option (List ℕ)) (n : ℕ) → Grown old mid a b → Fills mid new b c n → Grown old new a c
 Grown-fills old mid new a b c n grown fills = record {
@@ -80,13 +77,6 @@ Takes-cut_short old new (Some xs) (Some ys) grown end some short none =
     let line : IsShortLine new = record { one = subst HasNoNewline (take_all 81 new (omega (arith, short))) none; short = short } in
     (subst (λ (zs : List ℕ). 0 < length zs) before some, subst IsShortLine before line, refl)
 
--- no byte is held, and none is left
-pub Takes-end : (old new : List ℕ) (a b : Option (List ℕ)) → Grown old new a b → IsAtEnd b → length new ≡ 0 → Takes (prepend_known old a) End (Some [])
-Takes-end old new None b grown end none = tt
-Takes-end old new (Some xs) None grown end none = absurd grown.source
-Takes-end old new (Some xs) (Some ys) grown end none =
-    (sym (Keeps-grown old new (Some xs) (Some ys) grown) ∙ ap (λ (zs : List ℕ). zs ++ ys) (nil_from_length new none) ∙ end, refl)
-
 -- a line was handed out
 pub HandsOut-text : (old new : Reader) (held : List ℕ) (len : ℕ) (a b : Option (List ℕ)) → old.is_done ≡ false → new.is_done ≡ false → new.number ≡ old.number + 1 → Grown old.held held a b → Stands held len → new.line ≡ take len held → held ≡ take len held ++ newline ∷ new.held → HandsOut old new a b (Text new.line)
 HandsOut-text old new held len a b reading goes_on number grown stands line split =
@@ -108,12 +98,4 @@ HandsOut-done old new next a b reading done number no_text form takes end = reco
   done = rw no_text done;
   number = rw no_text number;
   end = λ _. end;
-}
-
--- a fault left the bytes before the reader
-pub IsUnchanged-grown : (old new : Reader) (a b : Option (List ℕ)) → old.is_done ≡ false → new.is_done ≡ false → new.number ≡ old.number → Grown old.held new.held a b → IsUnchanged old new a b
-IsUnchanged-grown old new a b reading goes_on number grown = record {
-  bytes = rw (reading, goes_on) (Keeps-grown old.held new.held a b grown);
-  done = goes_on ∙ sym reading;
-  number = number;
 }

@@ -1,9 +1,9 @@
 -- What calls that write one piece after the other leave written.
 use Rattle.std.proofs.Common.{◌≡◌, ℕ, suc, ◌+◌, ◌<◌, ◌≤◌, List, ◌∷◌, ◌++◌, length, take, drop, get_or, Ok, Err, IsErr, sym, ap, ◌∙◌, subst, arith, length-append, take-append-drop, drop-cons}
-use Rattle.std.proofs.Math.Seq.{take-add, take-append-add, take-length}
+use Rattle.std.proofs.Math.Seq.{take-add, take-append-add}
 use Rattle.std.proofs.lemmas.Grind.{flat_map-append}
 use Rattle.std.proofs.lemmas.List.{take-append-le}
-use Rattle.std.proofs.KnownBytes.{Appends-nil, Appends-trans}
+use Rattle.std.proofs.KnownBytes.{Appends-trans}
 use Rattle.std.specs.Io.KnownBytes.{Appends}
 use Rattle.std.specs.List.{flat_map}
 use Rattle.std.specs.declared.option.Option.{Option}
@@ -25,14 +25,6 @@ pub AppendsPrefix-begun : (a b : Option (List ℕ)) (xs ys : List ℕ) → Appen
 AppendsPrefix-begun a b xs ys begun =
     let within : begun.0 ≤ length (xs ++ ys) = omega (arith, begun.1, length-append xs ys) in
     (begun.0, within, subst (λ (text : List ℕ). Appends a b text) (sym (take-append-le begun.0 xs ys begun.1)) begun.2)
-
--- a whole text is a prefix of itself
-pub AppendsPrefix-whole : (a b : Option (List ℕ)) (xs : List ℕ) → Appends a b xs → AppendsPrefix a b xs
-AppendsPrefix-whole a b xs whole = (length xs, omega arith, rw take-length whole)
-
--- nothing is a prefix of each text
-pub AppendsPrefix-none : (a : Option (List ℕ)) (xs : List ℕ) → AppendsPrefix a a xs
-AppendsPrefix-none a xs = (0, omega arith, Appends-nil a)
 
 -- a call that writes behind a whole text
 pub Writes-then : {T E : Type 0} (a b c : Option (List ℕ)) (result : Result T E) (xs ys : List ℕ) → Appends a b xs → Writes b c result ys → Writes a c result (xs ++ ys)

@@ -1,8 +1,8 @@
 -- A reader of lines, and the bytes before it.
-use Rattle.std.specs.Prelude.{◌≡◌, ℕ, ◌+◌, ◌≤◌, Bool, false, not, List, [], length, Some, None, ⊤, if◌then◌else◌}
+use Rattle.std.specs.Prelude.{◌≡◌, ◌⊎◌, ℕ, ◌+◌, ◌<◌, ◌≤◌, Bool, false, not, List, [], length, take, Contains, Some, None, ⊤, if◌then◌else◌}
 use Rattle.std.specs.declared.option.Option.{Option}
 use Rattle.std.specs.Io.KnownBytes.{prepend_known, Consumes, Keeps, IsAtEnd}
-use Rattle.mcb_ends.specs.Lines.{Next, Text, TooLong, CutShort, End, IsNext, IsShortLine, is_text}
+use Rattle.mcb_ends.specs.Lines.{Next, Text, TooLong, CutShort, End, IsNext, IsShortLine, is_text, newline}
 
 -- the line that it handed out last, the bytes that it holds, whether it is done, and how many lines it handed out
 pub record Reader : Type 0 where
@@ -53,3 +53,7 @@ pub record IsUnchanged (old new : Reader) (left left' : Option (List ℕ)) : Typ
 -- With what was read from the source, a reader held at most one buffer of 4,096 bytes.
 abbrev pub ReadsOneBuffer : Reader → Option (List ℕ) → Option (List ℕ) → Type 0
 ReadsOneBuffer old left left' = (more : List ℕ) × (length old.held + length more ≤ 4096) × Consumes left left' more
+
+-- The bytes that a reader holds tell what stands next: a newline is among the first 81, or there are 81 of them.
+abbrev pub IsInHand : Reader → Type 0
+IsInHand reader = Contains (take 81 reader.held) newline ⊎ (80 < length reader.held)

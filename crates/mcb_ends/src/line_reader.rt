@@ -1,4 +1,4 @@
-ghost use Rattle.std.specs.Prelude.{◌==◌, position, ◌≡◌, ◌+◌, ◌-◌, ◌^◌, ◌<◌, ◌≤◌, [], false, true, length, take, drop, MatchResult, IfOk, OnErr};
+ghost use Rattle.std.specs.Prelude.{◌==◌, position, ◌≡◌, ◌+◌, ◌-◌, ◌^◌, ◌<◌, ◌≤◌, [], false, true, length, take, drop, MatchResult, IsOk, IfOk, OnErr};
 ghost use Rattle.std.specs.Borrow.{sem};
 ghost use Rattle.std.specs.Io.BufRead.{Rests};
 ghost use Rattle.std.specs.Io.KnownBytes.{ReadConsumes};
@@ -47,7 +47,7 @@ impl Model for LineReader {
 
 impl LineReader {
     ghost use Rattle.mcb_ends.specs.Advance.{FillsBehind, next_found};
-    ghost use Rattle.mcb_ends.specs.Reader.{HandsOut, IsUnchanged, ReadsOneBuffer};
+    ghost use Rattle.mcb_ends.specs.Reader.{HandsOut, IsInHand, IsUnchanged, ReadsOneBuffer};
     ghost use Rattle.mcb_ends.specs.contracts.line_reader.LineReader.{the_row};
 
     /// A reader that holds nothing yet.
@@ -84,6 +84,9 @@ impl LineReader {
         // A reader that is done answers the end, and leaves the source alone.
         ensures idle { self.old.is_done ≡ true → (result ≡ Ok Line.End) × (src.new ≡ src.old) }
 
+        // So does one whose bytes tell what stands next.
+        ensures in_hand { IsInHand self.old → IsOk result × (src.new ≡ src.old) }
+
         // What the reader is once the line is let go.
         ensures* after { sem 𝓛 (Rests the_row self.entry (λ new. MatchResult result
             (λ line. HandsOut self.old new (S.left src.old) (S.left src.new) (next_of line))
@@ -106,6 +109,7 @@ impl LineReader {
         ensures cause { HasCause (S.faults src.old) (S.faults src.new) result }
         ensures ahead { ReadsOneBuffer self.old (S.left src.old) (S.left src.new) }
         ensures idle { self.old.is_done ≡ true → (result ≡ Ok Found.End) × (src.new ≡ src.old) }
+        ensures in_hand { IsInHand self.old → IsOk result × (src.new ≡ src.old) }
     {
         if self.is_done {
             return Ok(Found::End);

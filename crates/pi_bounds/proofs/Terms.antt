@@ -1,5 +1,5 @@
 -- The loop over the terms of an arctangent series, which is kept 1024 times as large.
-use Rattle.std.proofs.Common.{◌≡◌, refl, sym, subst, subst₂, ap, ◌∙◌, ℕ, zero, suc, ◌+◌, ◌*◌, ◌^◌, ◌%◌, ◌<◌, ◌≤◌, cond, pos, ◌+ℤ◌, ◌*ℤ◌, ◌≤ℤ◌, eqb, arith, lit<, lit≤, mul-pos}
+use Rattle.std.proofs.Common.{◌≡◌, refl, sym, subst, subst₂, ap, ◌∙◌, ℕ, zero, suc, ◌+◌, ◌*◌, ◌^◌, ◌%◌, ◌<◌, ◌≤◌, cond, pos, ◌+ℤ◌, ◌≤ℤ◌, eqb, arith, lit<, lit≤, mul-pos}
 use Rattle.std.proofs.Math.Nat.{pow-suc, pow-zero, one-le-pow, mod-lt, mod-eq_of_lt}
 use Rattle.std.proofs.Math.Pow.{pow_mono}
 use Rattle.std.proofs.lemmas.Int.{ints, to_z_pos}
@@ -7,8 +7,8 @@ use Rattle.std.specs.Int.{w128, cast_signed}
 use Rattle.ring_solver.specs.Expression.{num, ◌⊞◌, ◌⊟◌, ◌⊠◌, opp}
 use Rattle.ring_solver.proofs.Solver.{ring₁, ring₂, ring₃}
 use Rattle.rat_core.specs.Fraction.{ℚ, ◌÷◌, whole, ◌+ℚ◌, ◌-ℚ◌, ◌*ℚ◌, neg_ℚ, ◌≤ℚ◌}
-use Rattle.rat_core.proofs.Laws.{ℚ_ring, over-mul, mul-one, over-product, int-mul, le_refl}
-use Rattle.rat_core.proofs.Order.{over_common}
+use Rattle.rat_core.proofs.Laws.{ℚ_ring, over-mul, mul-one, int-mul, le_refl}
+use Rattle.rat_core.proofs.Order.{over_part}
 use Rattle.trig_meaning.specs.PartialSums.{sign, arctan_sum, pi_sum}
 use Rattle.directed_fixed.specs.Rounding.{IsFloor, IsCeiling}
 use Rattle.directed_fixed.specs.Ends.{Ends, Encloses, IsWithin, difference_of, multiple_of}
@@ -23,19 +23,10 @@ pub record SoFar (bits k j : ℕ) (power sum : Ends) : Type 0 where
   pub sum_width : sum.hi ≤ℤ (sum.lo +ℤ pos (2 * (j + 1)))
   pub sum_size : IsWithin (2 ^ 70 * (j + 1)) sum
 
--- 1/(a·b), times b, is 1/a; also with a factor before
-one_over : (a b : ℕ) → 0 < a → 0 < b → pos 1 ÷ (a * b) *ℚ whole b ≡ pos 1 ÷ a
-one_over a b p q =
-    let product : pos 1 ÷ (a * b) *ℚ pos b ÷ 1 ≡ (pos 1 *ℤ pos b) ÷ (a * b * 1) = over-product (pos 1) (pos b) (a * b) 1 (mul-pos p q) (lit< tt) in
-    let plain : a * b * 1 ≡ a * b = omega arith in
-    product ∙ ap (λ t. (pos 1 *ℤ pos b) ÷ t) plain ∙ over_common (pos 1) a b p q
-
-pub part_of : (c : ℚ) (a b : ℕ) → 0 < a → 0 < b → c *ℚ (pos 1 ÷ (a * b)) *ℚ whole b ≡ c *ℚ (pos 1 ÷ a)
+-- 1/(a·b), times a, is 1/b, also with a factor before
+part_of : (c : ℚ) (a b : ℕ) → 0 < a → 0 < b → c *ℚ (pos 1 ÷ (a * b)) *ℚ whole a ≡ c *ℚ (pos 1 ÷ b)
 part_of c a b p q =
-    ring₃ ℚ_ring (λ c x b. (c ⊠ x) ⊠ b) (λ c x b. c ⊠ (x ⊠ b)) refl c (pos 1 ÷ (a * b)) (whole b) ∙ ap (λ t. c *ℚ t) (one_over a b p q)
-
-power_pos : (k n : ℕ) → 0 < k → 0 < k ^ n
-power_pos k n h = one-le-pow n k h
+    ring₃ ℚ_ring (λ c x a. (c ⊠ x) ⊠ a) (λ c x a. c ⊠ (x ⊠ a)) refl c (pos 1 ÷ (a * b)) (whole a) ∙ ap (λ t. c *ℚ t) (over_part (pos 1) a b p q)
 
 -- odd powers
 first_power : (k : ℕ) → k ^ 1 ≡ k
@@ -45,7 +36,7 @@ first_power k =
     let plain : k ^ 0 * k ≡ 1 * k = ap (λ t. t * k) unit in
     power ∙ plain ∙ (omega arith)
 
-next_power : (k j : ℕ) → k ^ (2 * suc j + 1) ≡ k ^ (2 * j + 1) * (k * k)
+next_power : (k j : ℕ) → k ^ (2 * suc j + 1) ≡ k * k * k ^ (2 * j + 1)
 next_power k j =
     let odd : 2 * suc j + 1 ≡ suc (suc (2 * j + 1)) = omega arith in
     let twice : k ^ suc (suc (2 * j + 1)) ≡ k ^ suc (2 * j + 1) * k = pow-suc k (suc (2 * j + 1)) in
@@ -141,13 +132,13 @@ next bits k j power sum power' term sum' h before power_part narrow term_part lo
     let new = k ^ (2 * suc j + 1) in
     let power_value = whole 1024 *ℚ (pos 1 ÷ new) in
     let divided : power_value *ℚ whole (k * k) ≡ whole 1024 *ℚ (pos 1 ÷ old) =
-    ap (λ d. whole 1024 *ℚ (pos 1 ÷ d) *ℚ whole (k * k)) (next_power k j) ∙ part_of (whole 1024) old (k * k) (power_pos k (2 * j + 1) positive) (mul-pos positive positive)
+    ap (λ d. whole 1024 *ℚ (pos 1 ÷ d) *ℚ whole (k * k)) (next_power k j) ∙ part_of (whole 1024) (k * k) old (mul-pos positive positive) (one-le-pow (2 * j + 1) k positive)
     in
     let power_is : Encloses bits power' power_value = power_part power_value (subst (Encloses bits power) (sym divided) before.power_encloses) in
     let term_value = whole 1024 *ℚ (pos 1 ÷ ((2 * suc j + 1) * new)) in
-    let turned : (2 * suc j + 1) * new ≡ new * (2 * j + 3) = omega arith in
+    let turned : (2 * suc j + 1) * new ≡ (2 * j + 3) * new = omega arith in
     let divided_again : term_value *ℚ whole (2 * j + 3) ≡ power_value =
-    ap (λ d. whole 1024 *ℚ (pos 1 ÷ d) *ℚ whole (2 * j + 3)) turned ∙ part_of (whole 1024) new (2 * j + 3) (power_pos k (2 * suc j + 1) positive) (omega arith)
+    ap (λ d. whole 1024 *ℚ (pos 1 ÷ d) *ℚ whole (2 * j + 3)) turned ∙ part_of (whole 1024) (2 * j + 3) new (omega arith) (one-le-pow (2 * suc j + 1) k positive)
     in
     let term_is : Encloses bits term term_value = term_part term_value (subst (Encloses bits power') (sym divided_again) power_is) in
     let sum_is = signed j (whole 1024) (arctan_sum k j) (pos 1 ÷ ((2 * suc j + 1) * new)) ∙ ap (λ t. whole 1024 *ℚ t) (sym (next_sum k j)) in

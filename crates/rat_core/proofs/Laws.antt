@@ -1,7 +1,7 @@
 -- Fractions are an ordered field: the ring for the solver, and the order for certificates. What is shown of all pairs
 -- holds of all fractions (`ind₁` to `ind₃`).
 use mathlib.Core.Quot.{Quot-set, mk, sound, ind}
-use Rattle.std.proofs.Common.{◌≡◌, refl, sym, ap, ap₂, ◌∙◌, subst, ℕ, zero, suc, ◌*◌, ◌<◌, Bool, true, false, not, T, ℤ, pos, ◌+ℤ◌, ◌*ℤ◌, neg_ℤ, ◌≤ℤ◌, ◌<ℤ◌, [], ◌∷◌, arith, mul-pos, T_not}
+use Rattle.std.proofs.Common.{◌≡◌, refl, sym, ap, ap₂, ◌∙◌, subst, ℕ, zero, suc, ◌*◌, ◌<◌, Bool, true, false, not, T, ℤ, pos, ◌+ℤ◌, ◌-ℤ◌, ◌*ℤ◌, neg_ℤ, ◌≤ℤ◌, ◌<ℤ◌, [], ◌∷◌, arith, mul-pos, T_not}
 use Rattle.std.proofs.Math.Dec.{T_prop, not_T}
 use Rattle.std.specs.Int.Signed.{≤ℤ_refl, le_z_yes, clash_ℤ}
 use Rattle.std.specs.Prelude.{int_le}
@@ -11,11 +11,11 @@ use Rattle.ring_solver.specs.Expression.{num, ◌⊞◌, ◌⊠◌, opp}
 use Rattle.ring_solver.proofs.Solver.{ring₂, ring₄, ring₆}
 use Rattle.ring_solver.proofs.Certificate.{le₄, le₆, moved, at_most_of_same}
 use mathlib.Core.HLevel.{Π_prop}
-use borrow.Author.Differences.{at_most_in, below_in, le_in, le_not}
+use borrow.Author.Differences.{below_in, le_in, le_not}
 use Rattle.std.proofs.Math.IntN.{zero-*ℤ}
-use Rattle.ring_solver.proofs.Whole.{ℤ_ring, ℤ_ordered, ≤ℤ_antisym, *ℤ_mono_back}
+use Rattle.ring_solver.proofs.Whole.{ℤ_ring, ℤ_ordered, pos_le, ≤ℤ_antisym, *ℤ_mono_back}
 use Rattle.rat_core.specs.Ratio.{Ratio}
-use Rattle.rat_core.specs.Fraction.{ℚ, ◌÷◌, whole, ◌+ℚ◌, ◌*ℚ◌, neg_ℚ, at_most, ◌≤ℚ◌, ◌<ℚ◌}
+use Rattle.rat_core.specs.Fraction.{ℚ, ◌÷◌, whole, ◌+ℚ◌, ◌-ℚ◌, ◌*ℚ◌, neg_ℚ, at_most, ◌≤ℚ◌, ◌<ℚ◌}
 
 pub ind₁ : (P : ℚ → Type 0) → ((x : ℚ) → IsProp (P x)) → ((a : Ratio) → P (mk a)) → (x : ℚ) → P x
 ind₁ P prop f x = ind {β = P} prop f x
@@ -86,6 +86,9 @@ int-mul a b = sound (ring₂ ℤ_ring (λ a b. (a ⊠ b) ⊠ num 1) (λ a b. (a 
 pub int-neg : (a : ℤ) → neg_ℤ a ÷ 1 ≡ neg_ℚ (a ÷ 1)
 unfolding neg_ℚ ◌÷◌
 int-neg a = refl
+
+pub int-sub : (a b : ℤ) → (a -ℤ b) ÷ 1 ≡ a ÷ 1 -ℚ b ÷ 1
+int-sub a b = int-add a (neg_ℤ b) ∙ ap (λ t. a ÷ 1 +ℚ t) (int-neg b)
 
 abbrev pub ℚ_ring : CommutativeRing
 ℚ_ring = record {
@@ -181,9 +184,6 @@ le_prop x y h k = ap (λ (t : T (at_most x y)). record { le = t }) (T_prop (at_m
 pub lt_prop : (x y : ℚ) → IsProp (x <ℚ y)
 lt_prop x y h k = ap (λ (t : T (not (at_most y x))). record { lt = t }) (T_prop (not (at_most y x)) h.lt k.lt)
 
-pos_nonneg : (n : ℕ) → pos 0 ≤ℤ pos n
-pos_nonneg n = at_most_in (pos 0) (pos n) (omega arith)
-
 pub le_refl : (x : ℚ) → x ≤ℚ x
 unfolding at_most
 le_refl = ind₁ (λ x. x ≤ℚ x) (λ x. le_prop x x) (λ a. record { le = (≤ℤ_refl (a.num *ℤ pos a.den)).le })
@@ -194,7 +194,7 @@ le_trans = ind₃ (λ x y z. x ≤ℚ y → y ≤ℚ z → x ≤ℚ z) (λ x y z
     (λ a b c h k.
     let low : (a.num *ℤ pos c.den *ℤ pos b.den) ≤ℤ (c.num *ℤ pos a.den *ℤ pos b.den) =
     le₆ ℤ_ordered (λ n d m e k f. (n ⊠ f) ⊠ e) (λ n d m e k f. (k ⊠ d) ⊠ e) (λ n d m e k f. times f (n ⊠ e) (m ⊠ d) ∷ times d (m ⊠ f) (k ⊠ e) ∷ []) refl
-    a.num (pos a.den) b.num (pos b.den) c.num (pos c.den) (pos_nonneg c.den, le_z_yes h.le, (pos_nonneg a.den, le_z_yes k.le, tt)) in
+    a.num (pos a.den) b.num (pos b.den) c.num (pos c.den) (pos_le 0 c.den (omega arith), le_z_yes h.le, (pos_le 0 a.den (omega arith), le_z_yes k.le, tt)) in
     record { le = (*ℤ_mono_back (a.num *ℤ pos c.den) (c.num *ℤ pos a.den) b.den b.den_pos low).le })
 
 pub le_antisym : (x y : ℚ) → x ≤ℚ y → y ≤ℚ x → x ≡ y
@@ -227,7 +227,7 @@ unfolding at_most ◌+ℚ◌
 add_mono = ind₃ (λ z x y. x ≤ℚ y → z +ℚ x ≤ℚ z +ℚ y) (λ z x y. Π_prop (λ _. le_prop (z +ℚ x) (z +ℚ y)))
     (λ c a b h. record {
       le = (le₆ ℤ_ordered (λ n d m e k f. (k ⊠ d ⊞ n ⊠ f) ⊠ (f ⊠ e)) (λ n d m e k f. (k ⊠ e ⊞ m ⊠ f) ⊠ (f ⊠ d)) (λ n d m e k f. times (f ⊠ f) (n ⊠ e) (m ⊠ d) ∷ []) refl
-          a.num (pos a.den) b.num (pos b.den) c.num (pos c.den) (pos_nonneg (c.den * c.den), le_z_yes h.le, tt)).le;
+          a.num (pos a.den) b.num (pos b.den) c.num (pos c.den) (pos_le 0 (c.den * c.den) (omega arith), le_z_yes h.le, tt)).le;
     })
 
 pub mul_nonneg : (x y : ℚ) → whole 0 ≤ℚ x → whole 0 ≤ℚ y → whole 0 ≤ℚ x *ℚ y

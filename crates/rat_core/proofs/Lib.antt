@@ -4,3 +4,4 @@ pub mod Wrapped
 pub mod Compare
 pub mod Half
 pub mod Decimals
+pub mod Quotients

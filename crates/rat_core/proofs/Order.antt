@@ -1,14 +1,15 @@
 -- The order of fractions, sizes, and whole numbers among the fractions. Most inequalities are certificates.
-use Rattle.std.proofs.Common.{◌≡◌, refl, ap, ◌∙◌, ℕ, zero, suc, ◌*◌, ◌<◌, ◌≤◌, Bool, true, false, cond, not, T, ℤ, pos, ◌*ℤ◌, ◌≤ℤ◌, ◌<ℤ◌, [], ◌∷◌, lit<, arith, mul-pos, zero-lt-suc}
+use mathlib.Core.HLevel.{Π_prop}
+use Rattle.std.proofs.Common.{◌≡◌, refl, ap, ◌∙◌, ℕ, zero, suc, ◌*◌, ◌<◌, ◌≤◌, Bool, true, false, cond, not, T, ℤ, pos, unsigned_abs, ◌*ℤ◌, ◌≤ℤ◌, ◌<ℤ◌, [], ◌∷◌, lit<, arith, mul-pos, zero-lt-suc}
 use Rattle.std.proofs.lemmas.Int.{ints}
 use borrow.Author.Differences.{below_in}
 use Rattle.ring_solver.specs.Expression.{var, num, ◌⊞◌, ◌⊟◌, ◌⊠◌, opp}
 use Rattle.ring_solver.specs.Ordered.{le, times, same}
 use Rattle.ring_solver.proofs.Solver.{ring₁, ring₂, ring₃, ring_by₂}
-use Rattle.ring_solver.proofs.Certificate.{le₁, le₂, le₄, moved, add_cancel_at_most, add_mono_both}
-use Rattle.ring_solver.proofs.Whole.{*ℤ_mono, *ℤ_mono_back, *ℤ_mono_strict, *ℤ_mono_strict_back, ℤ_ring}
+use Rattle.ring_solver.proofs.Certificate.{le₁, le₂, le₄, le₅, moved, add_mono_both}
+use Rattle.ring_solver.proofs.Whole.{pos_le, *ℤ_mono, *ℤ_mono_back, *ℤ_mono_strict, *ℤ_mono_strict_back, ℤ_ring}
 use Rattle.rat_core.specs.Fraction.{ℚ, ◌÷◌, whole, ◌+ℚ◌, ◌-ℚ◌, ◌*ℚ◌, neg_ℚ, at_most, ◌≤ℚ◌, ◌<ℚ◌, abs}
-use Rattle.rat_core.proofs.Laws.{ℚ_ring, ℚ_ordered, le_refl, le_trans, le_antisym, lt_le, lt_not_le, le_or_lt, over-mul, over_le, over_le_back, over_lt, over_lt_back, over_same, mul_nonneg}
+use Rattle.rat_core.proofs.Laws.{ℚ_ring, ℚ_ordered, of_quotients, le_prop, le_refl, le_trans, le_antisym, lt_le, lt_not_le, le_or_lt, over-mul, over_le, over_le_back, over_lt, over_lt_back, over_same, over-product, mul_nonneg}
 
 -- ---- the strict order
 
@@ -20,9 +21,6 @@ lt_le_trans x y z h k = lt_of_not_le z x (λ l. lt_not_le x y h (le_trans y z x 
 
 pub le_lt_trans : (x y z : ℚ) → x ≤ℚ y → y <ℚ z → x <ℚ z
 le_lt_trans x y z h k = lt_of_not_le z x (λ l. lt_not_le y z k (le_trans z x y l h))
-
-pub add_mono_strict : (z x y : ℚ) → x <ℚ y → z +ℚ x <ℚ z +ℚ y
-add_mono_strict z x y h = lt_of_not_le (z +ℚ y) (z +ℚ x) (λ l. lt_not_le x y h (add_cancel_at_most ℚ_ordered z y x l))
 
 -- ---- whole numbers
 
@@ -39,7 +37,7 @@ pub int_lt_back : (a b : ℤ) → a ÷ 1 <ℚ b ÷ 1 → a <ℤ b
 int_lt_back a b h = *ℤ_mono_strict_back a b 1 (over_lt_back a b 1 1 (lit< tt) (lit< tt) h)
 
 pub whole_le : (m n : ℕ) → m ≤ n → whole m ≤ℚ whole n
-whole_le m n h = int_le (pos m) (pos n) (grind (arith, ints))
+whole_le m n h = int_le (pos m) (pos n) (pos_le m n h)
 
 pub whole_lt : (m n : ℕ) → m < n → whole m <ℚ whole n
 whole_lt m n h = int_lt (pos m) (pos n) (grind (arith, ints))
@@ -67,17 +65,33 @@ cancel_le k p x y h =
     le₄ ℚ_ordered (λ x y k i. x) (λ x y k i. y) (λ x y k i. times i (x ⊠ k) (y ⊠ k) ∷ same (y ⊟ x) (i ⊠ k) (num 1) ∷ []) refl
     x y (whole k) (pos 1 ÷ k) (over_nonneg 1 k, h, (over-mul (pos 1) k p, tt))
 
+-- a positive factor is cancelled from an order
+pub cancel_positive : (t x y : ℚ) → whole 0 <ℚ t → t *ℚ x ≤ℚ t *ℚ y → x ≤ℚ y
+cancel_positive t x y = of_quotients (λ t. whole 0 <ℚ t → t *ℚ x ≤ℚ t *ℚ y → x ≤ℚ y) (λ t. Π_prop (λ _. Π_prop (λ _. le_prop x y))) cancelled t
+  where
+    cancelled : (n : ℤ) (d : ℕ) → 0 < d → whole 0 <ℚ n ÷ d → n ÷ d *ℚ x ≤ℚ n ÷ d *ℚ y → x ≤ℚ y
+    cancelled n d p positive h =
+        let above : (pos 0 *ℤ pos d) <ℤ (n *ℤ pos 1) = over_lt_back (pos 0) n 1 d (lit< tt) p positive in
+        let is : n ≡ pos (unsigned_abs n) = omega (arith, ints) in
+        let product : n ÷ d *ℚ whole d ≡ whole (unsigned_abs n) = over-mul n d p ∙ ap (λ m. m ÷ 1) is in
+        cancel_le (unsigned_abs n) (omega (arith, ints)) x y
+        (le₅ ℚ_ordered (λ t x y d k. x ⊠ k) (λ t x y d k. y ⊠ k) (λ t x y d k. times d (t ⊠ x) (t ⊠ y) ∷ same (y ⊟ x) (t ⊠ d) k ∷ []) refl
+        (n ÷ d) x y (whole d) (whole (unsigned_abs n)) (whole_nonneg d, h, (product, tt)))
+
 -- a common factor of numerator and denominator
 pub over_common : (n : ℤ) (d k : ℕ) → 0 < d → 0 < k → (n *ℤ pos k) ÷ (d * k) ≡ n ÷ d
 over_common n d k p q = over_same (n *ℤ pos k) n (d * k) d (mul-pos p q) p (ring₃ ℤ_ring (λ n d k. (n ⊠ k) ⊠ d) (λ n d k. n ⊠ (d ⊠ k)) refl n (pos d) (pos k))
+
+-- n / (c·d), times c, is n / d
+pub over_part : (n : ℤ) (c d : ℕ) → 0 < c → 0 < d → n ÷ (c * d) *ℚ whole c ≡ n ÷ d
+over_part n c d p q =
+    over-product n (pos c) (c * d) 1 (mul-pos p q) (lit< tt)
+    ∙ over_same (n *ℤ pos c) n (c * d * 1) d (mul-pos (mul-pos p q) (lit< tt)) q (ring₃ ℤ_ring (λ n c d. n ⊠ c ⊠ d) (λ n c d. n ⊠ (c ⊠ d ⊠ num 1)) refl n (pos c) (pos d))
 
 -- ---- products and negatives
 
 pub mul_mono_both : (x y z w : ℚ) → whole 0 ≤ℚ z → whole 0 ≤ℚ y → x ≤ℚ y → z ≤ℚ w → x *ℚ z ≤ℚ y *ℚ w
 mul_mono_both x y z w p q h k = le₄ ℚ_ordered (λ x y z w. x ⊠ z) (λ x y z w. y ⊠ w) (λ x y z w. times z x y ∷ times y z w ∷ []) refl x y z w (p, h, (q, k, tt))
-
-pub neg_mono : (x y : ℚ) → x ≤ℚ y → neg_ℚ y ≤ℚ neg_ℚ x
-neg_mono x y h = le₂ ℚ_ordered (λ x y. opp y) (λ x y. opp x) (λ x y. le x y ∷ []) refl x y (h, tt)
 
 pub neg_nonneg : (x : ℚ) → x ≤ℚ whole 0 → whole 0 ≤ℚ neg_ℚ x
 neg_nonneg x h = le₁ ℚ_ordered (λ x. num 0) (λ x. opp x) (λ x. le x (num 0) ∷ []) refl x (h, tt)
@@ -93,9 +107,6 @@ abs_cases P x f g = cases (at_most (whole 0) x) (λ t. f (record { le = t })) (�
     cases : (b : Bool) → (T b → P x) → (T (not b) → P (neg_ℚ x)) → P (cond b x (neg_ℚ x))
     cases true f g = f tt
     cases false f g = g tt
-
-pub abs_nonneg : (x : ℚ) → whole 0 ≤ℚ abs x
-abs_nonneg x = abs_cases (λ a. whole 0 ≤ℚ a) x (λ h. h) (neg_nonneg x)
 
 pub le_abs : (x : ℚ) → x ≤ℚ abs x
 le_abs x = abs_cases (λ a. x ≤ℚ a) x (λ h. le_refl x) (λ h. le_trans x (whole 0) (neg_ℚ x) h (neg_nonneg x h))

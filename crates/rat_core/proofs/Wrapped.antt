@@ -7,13 +7,13 @@ use borrow.Author.Differences.{below_in}
 use mathlib.Core.HLevel.{Π_prop}
 use Rattle.ring_solver.specs.Expression.{opp, num, ◌⊞◌, ◌⊟◌, ◌⊠◌}
 use Rattle.ring_solver.specs.Ordered.{le, times, same}
-use Rattle.ring_solver.proofs.Solver.{ring, ring₁, ring₂, ring₃}
-use Rattle.ring_solver.proofs.Certificate.{le₁, le₃, at_most_of_same}
+use Rattle.ring_solver.proofs.Solver.{ring, ring₂, ring₃}
+use Rattle.ring_solver.proofs.Certificate.{le₁, le₃}
 use Rattle.ring_solver.proofs.Whole.{ℤ_ring, *ℤ-pos_one}
 use Rattle.ring_solver.proofs.Division.{div_euclid_low, div_euclid_high, div_euclid_unique, div_rem_euclid, rem_euclid_below}
 use Rattle.rat_core.specs.Fraction.{ℚ, ◌÷◌, whole, ◌+ℚ◌, ◌-ℚ◌, ◌*ℚ◌, neg_ℚ, ◌≤ℚ◌, ◌<ℚ◌, floor, wrapped}
-use Rattle.rat_core.proofs.Laws.{ℚ_ring, ℚ_ordered, of_quotients, over_at, le_prop, lt_prop, lt_not_le, over_le, over_le_back, over_lt, over_lt_back, int-add, int-mul, int-neg, lt_le, over-mul}
-use Rattle.rat_core.proofs.Order.{lt_of_not_le, over_nonneg, difference_nonneg, whole_lt, cancel}
+use Rattle.rat_core.proofs.Laws.{ℚ_ring, ℚ_ordered, of_quotients, over_at, le_prop, lt_prop, lt_not_le, over_le, over_le_back, over_lt, over_lt_back, int-add, int-mul, int-neg, le_refl, lt_le, over-mul}
+use Rattle.rat_core.proofs.Order.{lt_of_not_le, over_nonneg, difference_nonneg, whole_lt, whole_nonneg, cancel}
 
 pub floor-over : (n : ℤ) (d : ℕ) → 0 < d → floor (n ÷ d) ≡ int_div_euclid n (pos d)
 unfolding floor
@@ -70,17 +70,41 @@ wrapped_unique x k low high =
     (le₃ ℚ_ordered (λ x k h. num 2) (λ x k h. x ⊟ num 2 ⊠ k) (λ x k h. times (num 2) (k ⊞ num 1) (x ⊠ h) ∷ same x (h ⊠ num 2) (num 1) ∷ []) refl
     x (k ÷ 1) (pos 1 ÷ 2) (over_nonneg 2 1, l, (twice_half, tt))))))
 
--- a fraction that lies in the turn already
-pub wrapped_inside : (x : ℚ) → whole 0 ≤ℚ x → x <ℚ whole 2 → wrapped x ≡ x
-wrapped_inside x low high =
-    wrapped_unique x (pos 0) (subst (λ t. whole 0 ≤ℚ t) (sym same_x) low) (subst (λ t. t <ℚ whole 2) (sym same_x) high) ∙ same_x
-  where
-    same_x : x -ℚ whole 2 *ℚ whole 0 ≡ x
-    same_x = ring₁ ℚ_ring (λ x. x ⊟ num 2 ⊠ num 0) (λ x. x) refl x
+-- the same, where what is left is named y
+pub wrapped_is : (x y : ℚ) (k : ℤ) → x -ℚ whole 2 *ℚ (k ÷ 1) ≡ y → whole 0 ≤ℚ y → y <ℚ whole 2 → wrapped x ≡ y
+wrapped_is x y k e low high = wrapped_unique x k (subst (λ t. whole 0 ≤ℚ t) (sym e) low) (subst (λ t. t <ℚ whole 2) (sym e) high) ∙ e
+
+-- the half turns that are taken off x: twice this whole number
+abbrev turns : ℚ → ℤ
+turns x = floor (x *ℚ (pos 1 ÷ 2))
+
+-- whole turns make no difference
+pub wrapped-turns : (x : ℚ) (k : ℤ) → wrapped (x +ℚ whole 2 *ℚ (k ÷ 1)) ≡ wrapped x
+wrapped-turns x k =
+    wrapped_is (x +ℚ whole 2 *ℚ (k ÷ 1)) (wrapped x) (turns x +ℤ k)
+    (ap (λ t. x +ℚ whole 2 *ℚ (k ÷ 1) -ℚ whole 2 *ℚ t) (int-add (turns x) k)
+    ∙ ring₃ ℚ_ring (λ x f k. x ⊞ num 2 ⊠ k ⊟ num 2 ⊠ (f ⊞ k)) (λ x f k. x ⊟ num 2 ⊠ f) refl x (turns x ÷ 1) (k ÷ 1))
+    (wrapped_low x) (wrapped_high x)
+
+-- half a turn more, in the first half of the turn and in the second
+pub wrapped-half_low : (x : ℚ) → wrapped x <ℚ whole 1 → wrapped (x +ℚ whole 1) ≡ wrapped x +ℚ whole 1
+wrapped-half_low x h =
+    wrapped_is (x +ℚ whole 1) (wrapped x +ℚ whole 1) (turns x) (ring₂ ℚ_ring (λ x f. x ⊞ num 1 ⊟ num 2 ⊠ f) (λ x f. x ⊟ num 2 ⊠ f ⊞ num 1) refl x (turns x ÷ 1))
+    (le₁ ℚ_ordered (λ w. num 0) (λ w. w ⊞ num 1) (λ w. le (num 0) w ∷ le (num 0) (num 1) ∷ []) refl (wrapped x) (wrapped_low x, (whole_nonneg 1, tt)))
+    (lt_of_not_le (whole 2) (wrapped x +ℚ whole 1) (λ l. lt_not_le (wrapped x) (whole 1) h (le₁ ℚ_ordered (λ w. num 1) (λ w. w) (λ w. le (num 2) (w ⊞ num 1) ∷ []) refl (wrapped x) (l, tt))))
+
+pub wrapped-half_high : (x : ℚ) → whole 1 ≤ℚ wrapped x → wrapped (x +ℚ whole 1) ≡ wrapped x -ℚ whole 1
+wrapped-half_high x h =
+    wrapped_is (x +ℚ whole 1) (wrapped x -ℚ whole 1) (turns x +ℤ pos 1)
+    (ap (λ t. x +ℚ whole 1 -ℚ whole 2 *ℚ t) (int-add (turns x) (pos 1))
+    ∙ ring₂ ℚ_ring (λ x f. x ⊞ num 1 ⊟ num 2 ⊠ (f ⊞ num 1)) (λ x f. x ⊟ num 2 ⊠ f ⊟ num 1) refl x (turns x ÷ 1))
+    (difference_nonneg (whole 1) (wrapped x) h)
+    (lt_of_not_le (whole 2) (wrapped x -ℚ whole 1) (λ l. lt_not_le (wrapped x) (whole 2) (wrapped_high x)
+    (le₁ ℚ_ordered (λ w. num 2) (λ w. w) (λ w. le (num 2) (w ⊟ num 1) ∷ le (num 0) (num 1) ∷ []) refl (wrapped x) (l, (whole_nonneg 1, tt)))))
 
 -- a quotient is brought into the turn by the remainder of its numerator
 pub wrapped-over : (n : ℤ) (d : ℕ) → 0 < d → wrapped (n ÷ d) ≡ int_rem_euclid n (pos (2 * d)) ÷ d
-wrapped-over n d p = wrapped_unique (n ÷ d) k (subst (λ t. whole 0 ≤ℚ t) (sym e) low) (subst (λ t. t <ℚ whole 2) (sym e) high) ∙ e
+wrapped-over n d p = wrapped_is (n ÷ d) (r ÷ d) k e low high
   where
     k : ℤ
     k = int_div_euclid n (pos (2 * d))
@@ -115,23 +139,16 @@ wrapped-over n d p = wrapped_unique (n ÷ d) k (subst (λ t. whole 0 ≤ℚ t) (
 -- the negative of a fraction lies at the mirror image in the turn, or at 0 with it
 pub wrapped-neg_inside : (x : ℚ) → whole 0 <ℚ wrapped x → wrapped (neg_ℚ x) ≡ whole 2 -ℚ wrapped x
 wrapped-neg_inside x p =
-    let f = floor (x *ℚ (pos 1 ÷ 2)) in
-    let k = neg_ℤ (f +ℤ pos 1) in
-    let e : neg_ℚ x -ℚ whole 2 *ℚ (k ÷ 1) ≡ whole 2 -ℚ wrapped x =
-    ap (λ t. neg_ℚ x -ℚ whole 2 *ℚ t) (int-neg (f +ℤ pos 1) ∙ ap neg_ℚ (int-add f (pos 1)))
-    ∙ ring₂ ℚ_ring (λ x f. opp x ⊟ num 2 ⊠ opp (f ⊞ num 1)) (λ x f. num 2 ⊟ (x ⊟ num 2 ⊠ f)) refl x (f ÷ 1) in
-    wrapped_unique (neg_ℚ x) k
-    (subst (λ t. whole 0 ≤ℚ t) (sym e) (difference_nonneg (wrapped x) (whole 2) (lt_le (wrapped x) (whole 2) (wrapped_high x))))
-    (subst (λ t. t <ℚ whole 2) (sym e)
-    (lt_of_not_le (whole 2) (whole 2 -ℚ wrapped x) (λ l. lt_not_le (whole 0) (wrapped x) p
-    (le₁ ℚ_ordered (λ w. w) (λ w. num 0) (λ w. le (num 2) (num 2 ⊟ w) ∷ []) refl (wrapped x) (l, tt)))))
-    ∙ e
+    wrapped_is (neg_ℚ x) (whole 2 -ℚ wrapped x) (neg_ℤ (turns x +ℤ pos 1))
+    (ap (λ t. neg_ℚ x -ℚ whole 2 *ℚ t) (int-neg (turns x +ℤ pos 1) ∙ ap neg_ℚ (int-add (turns x) (pos 1)))
+    ∙ ring₂ ℚ_ring (λ x f. opp x ⊟ num 2 ⊠ opp (f ⊞ num 1)) (λ x f. num 2 ⊟ (x ⊟ num 2 ⊠ f)) refl x (turns x ÷ 1))
+    (difference_nonneg (wrapped x) (whole 2) (lt_le (wrapped x) (whole 2) (wrapped_high x)))
+    (lt_of_not_le (whole 2) (whole 2 -ℚ wrapped x) (λ l. lt_not_le (whole 0) (wrapped x) p (le₁ ℚ_ordered (λ w. w) (λ w. num 0) (λ w. le (num 2) (num 2 ⊟ w) ∷ []) refl (wrapped x) (l, tt))))
 
 pub wrapped-neg_zero : (x : ℚ) → wrapped x ≡ whole 0 → wrapped (neg_ℚ x) ≡ whole 0
 wrapped-neg_zero x z =
-    let f = floor (x *ℚ (pos 1 ÷ 2)) in
-    let e : neg_ℚ x -ℚ whole 2 *ℚ (neg_ℤ f ÷ 1) ≡ whole 0 =
-    ap (λ t. neg_ℚ x -ℚ whole 2 *ℚ t) (int-neg f)
-    ∙ ring₂ ℚ_ring (λ x f. opp x ⊟ num 2 ⊠ opp f) (λ x f. opp (x ⊟ num 2 ⊠ f)) refl x (f ÷ 1) ∙ ap neg_ℚ z
-    ∙ ring ℚ_ring [] (opp (num 0)) (num 0) refl in
-    wrapped_unique (neg_ℚ x) (neg_ℤ f) (at_most_of_same ℚ_ordered (sym e)) (subst (λ t. t <ℚ whole 2) (sym e) (whole_lt 0 2 (lit< tt))) ∙ e
+    wrapped_is (neg_ℚ x) (whole 0) (neg_ℤ (turns x))
+    (ap (λ t. neg_ℚ x -ℚ whole 2 *ℚ t) (int-neg (turns x))
+    ∙ ring₂ ℚ_ring (λ x f. opp x ⊟ num 2 ⊠ opp f) (λ x f. opp (x ⊟ num 2 ⊠ f)) refl x (turns x ÷ 1) ∙ ap neg_ℚ z
+    ∙ ring ℚ_ring [] (opp (num 0)) (num 0) refl)
+    (le_refl (whole 0)) (whole_lt 0 2 (lit< tt))

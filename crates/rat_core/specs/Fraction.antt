@@ -2,21 +2,21 @@
 -- equal fractions are equal, and whatever is computed with fractions does not see how they are written.
 use mathlib.Core.Quot.{Quot, Quot-set, mk, sound, lift, ind}
 use mathlib.Core.HLevel.{Π_set}
-use Rattle.std.specs.Prelude.{◌≡◌, ℕ, zero, suc, Bool, cond, not, T, ℤ, pos}
+use Rattle.std.specs.Prelude.{◌≡◌, refl, ℕ, zero, suc, Bool, cond, not, T, ℤ, pos}
 use Rattle.std.proofs.Math.Bool.{Bool-set}
 use Rattle.std.proofs.Math.IntN.{ℤ_set}
 use Rattle.std.proofs.Common.{zero-lt-suc}
 use Rattle.rat_core.specs.Ratio.{Ratio, IsSame, sum_of, product_of, minus_of, is_at_most, floor_of}
-use Rattle.rat_core.specs.Respect.{same_sum_left, same_sum_right, same_product_left, same_product_right, same_minus, same_at_most_left, same_at_most_right, same_floor}
+use Rattle.rat_core.specs.Respect.{same_sum, same_product, same_minus, same_at_most, same_floor}
 
 abbrev pub ℚ : Type 0
 ℚ = Quot IsSame
 
--- f at two fractions, where it gives the same for the same fractions in either place
-abbrev pub lift₂ : {C : Type 0} → IsSet C → (f : Ratio → Ratio → C) → ((a a' b : Ratio) → IsSame a a' → f a b ≡ f a' b) → ((b a a' : Ratio) → IsSame a a' → f b a ≡ f b a') → ℚ → ℚ → C
-lift₂ {C} set f left right =
-    lift (Π_set (λ _. set)) (λ a. lift set (f a) (λ b b' h. right a b b' h))
-    (λ a a' h i y. ind {β = λ y. lift set (f a) (λ b b' k. right a b b' k) y ≡ lift set (f a') (λ b b' k. right a' b b' k) y} (λ y. set _ _) (λ b. left a a' b h) y i)
+-- f at two fractions, where it gives the same for the same fractions
+abbrev pub lift₂ : {C : Type 0} → IsSet C → (f : Ratio → Ratio → C) → ((a a' b b' : Ratio) → IsSame a a' → IsSame b b' → f a b ≡ f a' b') → ℚ → ℚ → C
+lift₂ {C} set f same =
+    let at : Ratio → ℚ → C = λ a. lift set (f a) (λ b b'. same a a b b' refl) in
+    lift (Π_set (λ _. set)) at (λ a a' h i y. ind {β = λ y. at a y ≡ at a' y} (λ y. set _ _) (λ b. same a a' b b h refl) y i)
 
 -- n / d, and 0 where d is 0
 infix 8 ◌÷◌
@@ -31,20 +31,20 @@ whole n = pos n ÷ 1
 infixl 6 ◌+ℚ◌ ◌-ℚ◌
 infixl 7 ◌*ℚ◌
 unfoldable pub ◌+ℚ◌ : ℚ → ℚ → ℚ
-◌+ℚ◌ = lift₂ Quot-set (λ r s. mk (sum_of r s)) (λ a a' b h. sound (same_sum_left a a' b h)) (λ b a a' h. sound (same_sum_right b a a' h))
+◌+ℚ◌ = lift₂ Quot-set (λ a b. mk (sum_of a b)) (λ a a' b b' h k. sound (same_sum a a' b b' h k))
 
 unfoldable pub ◌*ℚ◌ : ℚ → ℚ → ℚ
-◌*ℚ◌ = lift₂ Quot-set (λ r s. mk (product_of r s)) (λ a a' b h. sound (same_product_left a a' b h)) (λ b a a' h. sound (same_product_right b a a' h))
+◌*ℚ◌ = lift₂ Quot-set (λ a b. mk (product_of a b)) (λ a a' b b' h k. sound (same_product a a' b b' h k))
 
 unfoldable pub neg_ℚ : ℚ → ℚ
-neg_ℚ = lift Quot-set (λ r. mk (minus_of r)) (λ a a' h. sound (same_minus a a' h))
+neg_ℚ = lift Quot-set (λ a. mk (minus_of a)) (λ a a' h. sound (same_minus a a' h))
 
 abbrev pub ◌-ℚ◌ : ℚ → ℚ → ℚ
 x -ℚ y = x +ℚ neg_ℚ y
 
 -- the test of x ≤ y
 unfoldable pub at_most : ℚ → ℚ → Bool
-at_most = lift₂ Bool-set is_at_most same_at_most_left same_at_most_right
+at_most = lift₂ Bool-set is_at_most same_at_most
 
 infix 4 ◌≤ℚ◌ ◌<ℚ◌
 pub record ◌≤ℚ◌ (x y : ℚ) : Type 0 where

@@ -9,10 +9,6 @@ use mir.Syntax.{w128}
 unsigned_abs-sub : (x y : ℤ) → unsigned_abs (x -ℤ y) ≤ unsigned_abs x + unsigned_abs y
 unsigned_abs-sub x y = omega (arith, ints)
 
--- a difference of two corners
-pub steps_small : (from to : ℕ) → from ≤ 2 ^ 20 → to ≤ 2 ^ 20 → unsigned_abs (pos to -ℤ pos from) ≤ 2 ^ 20
-steps_small from to h k = omega (arith, ints)
-
 -- a product of bounded numbers
 product_at_most : (x y : ℤ) (m n k : ℕ) → unsigned_abs x ≤ m → unsigned_abs y ≤ n → m * n ≤ k → unsigned_abs (x *ℤ y) ≤ k
 product_at_most x y m n k h l e = let p : unsigned_abs x * unsigned_abs y ≤ m * n = mul-le-mul h l in omega (arith, unsigned_abs-mul x y)
@@ -24,7 +20,7 @@ offset_small grid at d n g a h k =
     let r : unsigned_abs (pos at *ℤ pos d) ≤ 2 ^ 41 = product_at_most (pos at) (pos d) (2 ^ 20) (2 ^ 21) (2 ^ 41) a h (lit≤ tt) in
     omega (arith, unsigned_abs-sub (pos grid *ℤ n) (pos at *ℤ pos d))
 
--- a number that fits is kept by the operations on 128 bits
+-- in 128 bits this distance is computed exactly
 pub offset_kept : (grid at d : ℕ) (n : ℤ) → grid ≤ 2 ^ 20 → at ≤ 2 ^ 20 → d ≤ 2 ^ 21 → unsigned_abs n < 2 ^ 60 → to_z w128 (of_z w128 (to_z w128 (of_z w128 (to_z w128 (of_z w128 (pos grid)) *ℤ to_z w128 (of_z w128 n))) -ℤ to_z w128 (of_z w128 (to_z w128 (of_z w128 (pos at)) *ℤ to_z w128 (of_z w128 (pos d)))))) ≡ pos grid *ℤ n -ℤ pos at *ℤ pos d
 offset_kept grid at d n g a h k =
     let gf : FitsSigned w128 (pos grid) = fits_signed_from_abs w128 (pos grid) (omega arith) in
@@ -44,7 +40,7 @@ first_small s o h k = product_at_most s o (2 ^ 20) (2 ^ 81) (2 ^ 101) h k (lit�
 small_kept : (z : ℤ) → unsigned_abs z ≤ 2 ^ 101 → to_z w128 (of_z w128 z) ≡ z
 small_kept z h = to_z-of_z (fits_signed_from_abs w128 z (omega arith))
 
--- a number of steps times an offset, and that times a denominator
+-- a number of steps times an offset fits
 pub first_fits : (s o : ℤ) → unsigned_abs s ≤ 2 ^ 20 → unsigned_abs o ≤ 2 ^ 81 → FitsSigned w128 (to_z w128 (of_z w128 s) *ℤ to_z w128 (of_z w128 o))
 first_fits s o h k = rw (small_kept s (omega arith), small_kept o (omega arith)) (fits_signed_mul w128 s o (2 ^ 20) (2 ^ 81) h k (lit< tt))
 

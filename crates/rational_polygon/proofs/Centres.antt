@@ -8,9 +8,9 @@ use Rattle.ring_solver.proofs.Certificate.{le₄}
 use Rattle.rat_core.specs.Fraction.{ℚ, ◌+ℚ◌, ◌-ℚ◌, ◌≤ℚ◌, abs}
 use Rattle.rat_core.proofs.Laws.{ℚ_ordered, over_same}
 use Rattle.rat_core.proofs.Order.{abs_le}
+use Rattle.rat_core.proofs.Quotients.{over-add_same}
 use Rattle.rational_polygon.specs.Point.{Point}
 use Rattle.rational_polygon.specs.Square.{Square, dyadic, half_side, centre, IsInBox}
-use Rattle.rational_polygon.proofs.Grid.{over-add_same}
 
 -- a dyadic fraction over the next power
 finer : (n level : ℕ) → dyadic n level ≡ dyadic (2 * n) (level + 1)

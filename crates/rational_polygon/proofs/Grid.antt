@@ -1,50 +1,27 @@
 -- Where the points of a grid lie in the unit square, and that the corners of a polygon are points of it.
-use Rattle.std.proofs.Common.{◌≡◌, refl, sym, ◌∙◌, subst, ℕ, ◌+◌, ◌-◌, ◌*◌, ◌<◌, ◌≤◌, List, length, slice_index_or, pos, ◌+ℤ◌, ◌*ℤ◌, ◌≤ℤ◌, inl, inr, arith, mul-pos}
-use Rattle.std.specs.Prelude.{All}
+use Rattle.std.proofs.Common.{◌≡◌, refl, sym, subst, ℕ, ◌-◌, ◌<◌, length, slice_index_or, pos, inl, inr, arith}
+use Rattle.std.specs.Prelude.{Any}
 use Rattle.std.proofs.lemmas.List.{get_or_default}
 use Rattle.std.proofs.lemmas.Bool.Decides.{eqb_tells}
-use borrow.Author.Differences.{at_most_in, below_in}
-use Rattle.ring_solver.specs.Expression.{num, ◌⊞◌, ◌⊟◌, ◌⊠◌}
-use Rattle.ring_solver.proofs.Solver.{ring₃, ring₄}
-use Rattle.ring_solver.proofs.Whole.{ℤ_ring}
+use Rattle.ring_solver.specs.Expression.{num, ◌⊟◌, ◌⊠◌}
+use Rattle.ring_solver.proofs.Solver.{ring₄}
 use Rattle.ring_solver.proofs.Certificate.{at_most_of_same}
-use Rattle.rat_core.specs.Fraction.{ℚ, ◌÷◌, whole, ◌+ℚ◌, ◌≤ℚ◌, ◌<ℚ◌}
-use Rattle.rat_core.proofs.Laws.{ℚ_ring, ℚ_ordered, over_same, over-add, over_le, over_lt, le_refl, le_trans, lt_le}
+use Rattle.rat_core.specs.Fraction.{ℚ, ◌÷◌, whole, ◌≤ℚ◌}
+use Rattle.rat_core.proofs.Laws.{ℚ_ring, ℚ_ordered, le_refl, le_trans, lt_le}
 use Rattle.rat_core.proofs.Order.{over_nonneg, over_positive}
+use Rattle.rat_core.proofs.Quotients.{over_at_most_one, sum_below_one}
 use Rattle.rational_polygon.specs.Point.{Point, turn, IsOnOrLeft, IsTriangle}
 use Rattle.rational_polygon.specs.Square.{unit_square, IsInBox}
 use Rattle.rational_polygon.specs.Outline.{Outline, grid_point, IsNumber, corner, next, IsInside, IsPolygon, IsInPolygon}
-use Rattle.rational_polygon.proofs.Numbers.{by_number}
-
--- the order of natural numbers as whole numbers
-pub pos_le : (a b : ℕ) → a ≤ b → pos a ≤ℤ pos b
-pos_le a b h = at_most_in (pos a) (pos b) (omega arith)
-
--- n / d is at most 1 where n is at most d, and below 1 where n is
-over_at_most_one : (n d : ℕ) → 0 < d → n ≤ d → pos n ÷ d ≤ℚ whole 1
-over_at_most_one n d p h = over_le (pos n) (pos 1) d 1 p (omega arith) (pos_le (n * 1) (1 * d) (omega arith))
-
-over_below_one : (n d : ℕ) → 0 < d → n < d → pos n ÷ d <ℚ whole 1
-over_below_one n d p h = over_lt (pos n) (pos 1) d 1 p (omega arith) (below_in (pos (n * 1)) (pos (1 * d)) (omega arith))
-
--- a sum over one denominator
-pub over-add_same : (m n d : ℕ) → 0 < d → pos m ÷ d +ℚ pos n ÷ d ≡ pos (m + n) ÷ d
-over-add_same m n d p =
-    over-add (pos m) (pos n) d d p p
-    ∙ over_same (pos m *ℤ pos d +ℤ pos n *ℤ pos d) (pos (m + n)) (d * d) d (mul-pos p p) p
-    (ring₃ ℤ_ring (λ m n d. (m ⊠ d ⊞ n ⊠ d) ⊠ d) (λ m n d. (m ⊞ n) ⊠ (d ⊠ d)) refl (pos m) (pos n) (pos d))
+use Rattle.rational_polygon.proofs.Numbers.{by_number, at_found}
 
 -- a corner that lies strictly inside is a triangle
 inside_is_triangle : (grid : ℕ) (c : ℕ × ℕ) → 0 < grid → IsInside grid c → IsTriangle (grid_point grid c)
 inside_is_triangle grid c p h = record {
   first = over_positive c.0 grid (omega (arith, h)) p;
   second = over_positive c.1 grid (omega (arith, h)) p;
-  third = subst (λ t. t <ℚ whole 1) (sym (over-add_same c.0 c.1 grid p)) (over_below_one (c.0 + c.1) grid p h.sum);
+  third = sum_below_one c.0 c.1 grid p h.sum;
 }
-
--- an element with a property, of a list whose elements all lie inside
-inside_at : (grid : ℕ) (cs : List (ℕ × ℕ)) (k : ℕ) (c : ℕ × ℕ) → All (IsInside grid) cs → k < length cs → slice_index_or cs k c ≡ c → IsInside grid c
-inside_at grid cs k c all lt e = subst (IsInside grid) e (all k c lt)
 
 -- every point of a polygon lies in the unit square
 pub in_unit_square : (outline : Outline) (p : Point) → IsPolygon outline → IsInPolygon outline p → IsInBox unit_square p
@@ -54,12 +31,12 @@ in_unit_square outline p polygon within =
     let r = within.rectangle.right in
     let b = within.rectangle.below in
     let a = within.rectangle.above in
-    let at = inside_at outline.grid outline.corners in
+    let at = λ (Q : ℕ × ℕ → Type 0) (found : Any Q outline.corners). at_found (IsInside outline.grid) Q outline.corners polygon.inside found in
     record {
       left = le_trans (whole 0) (pos l.1.0 ÷ outline.grid) p.x (over_nonneg l.1.0 outline.grid) l.4;
-      right = let i = at r.0 r.1 polygon.inside r.2 r.3 in le_trans p.x (pos r.1.0 ÷ outline.grid) (whole 1) r.4 (over_at_most_one r.1.0 outline.grid g (omega (arith, i)));
+      right = let i = at _ r in le_trans p.x (pos r.1.0 ÷ outline.grid) (whole 1) r.4 (over_at_most_one r.1.0 outline.grid g (omega (arith, i)));
       below = le_trans (whole 0) (pos b.1.1 ÷ outline.grid) p.y (over_nonneg b.1.1 outline.grid) b.4;
-      above = let i = at a.0 a.1 polygon.inside a.2 a.3 in le_trans p.y (pos a.1.1 ÷ outline.grid) (whole 1) a.4 (over_at_most_one a.1.1 outline.grid g (omega (arith, i)));
+      above = let i = at _ a in le_trans p.y (pos a.1.1 ÷ outline.grid) (whole 1) a.4 (over_at_most_one a.1.1 outline.grid g (omega (arith, i)));
     }
 
 -- the ends of an edge lie on its line

@@ -3,11 +3,12 @@ use Rattle.std.proofs.Common.{◌≡◌, sym, ap₂, subst, ℕ, ◌+◌, ◌*�
 use Rattle.std.proofs.Math.Pow.{pow_pos}
 use Rattle.std.proofs.Math.Nat.{mul-le-mul_right}
 use Rattle.std.proofs.lemmas.Grind.{pow_more}
+use Rattle.ring_solver.proofs.Whole.{pos_le}
 use Rattle.rat_core.specs.Fraction.{ℚ, ◌≤ℚ◌}
 use Rattle.rat_core.proofs.Laws.{over_le, le_trans, lt_le, le_or_lt}
+use Rattle.rat_core.proofs.Quotients.{over_mono}
 use Rattle.rational_polygon.specs.Point.{Point}
 use Rattle.rational_polygon.specs.Square.{Square, child, dyadic, IsInBox}
-use Rattle.rational_polygon.proofs.Grid.{pos_le}
 
 -- a dyadic fraction against one of the next level
 finer_above : (m n level : ℕ) → 2 * m ≤ n → dyadic m level ≤ℚ dyadic n (level + 1)
@@ -30,12 +31,9 @@ half_of i level x low high =
     (λ h. (
       1,
       omega arith,
-      le_trans (dyadic (2 * i + 1 + 0) (level + 1)) middle x (same_at (2 * i + 1 + 0) (2 * i + 0 + 1) (level + 1) (omega arith)) (lt_le middle x h),
+      le_trans (dyadic (2 * i + 1 + 0) (level + 1)) middle x (over_mono (2 * i + 1 + 0) (2 * i + 0 + 1) (2 ^ (level + 1)) (pow_pos (level + 1)) (omega arith)) (lt_le middle x h),
       le_trans x (dyadic (i + 1) level) (dyadic (2 * i + 1 + 1) (level + 1)) high (finer_above (i + 1) (2 * i + 1 + 1) level (omega arith)),
     ))
-  where
-    same_at : (m n level : ℕ) → m ≤ n → dyadic m level ≤ℚ dyadic n level
-    same_at m n level h = over_le (pos m) (pos n) (2 ^ level) (2 ^ level) (pow_pos level) (pow_pos level) (pos_le (m * 2 ^ level) (n * 2 ^ level) (mul-le-mul_right (2 ^ level) h))
 
 -- a point of a box lies in one of its children
 pub some_child : (box : Square) (p : Point) → IsInBox box p → (c : ℕ) × (c < 4) × IsInBox (child box c) p

@@ -1,5 +1,6 @@
 pub mod Bounds
 pub mod Centres
+pub mod Fan
 pub mod Grid
 pub mod Halves
 pub mod Numbers

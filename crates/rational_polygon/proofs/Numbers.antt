@@ -1,6 +1,6 @@
--- What holds of the corners by their numbers, from 1 on.
+-- What holds of all elements of a list, of each by its number from 1 on, and of one that is found.
 use Rattle.std.proofs.Common.{◌≡◌, ◌∙◌, ap, subst, ℕ, ◌+◌, ◌-◌, ◌<◌, ◌≤◌, List, length, slice_index_or, arith}
-use Rattle.std.specs.Prelude.{All}
+use Rattle.std.specs.Prelude.{All, Any}
 use Rattle.std.proofs.Math.Nat.{add-sub_cancel}
 use Rattle.std.proofs.lemmas.List.{get_or_default}
 
@@ -15,3 +15,7 @@ all_by_number P xs e h k d lt = subst P (at_number xs e k d lt) (h (k + 1) (omeg
 -- and back
 pub by_number : {X : Type 0} (P : X → Type 0) (xs : List X) (e : X) → All P xs → (m : ℕ) → 1 ≤ m → m ≤ length xs → P (slice_index_or xs (m - 1) e)
 by_number P xs e h m low high = h (m - 1) e (omega arith)
+
+-- what holds of all elements holds of one that is found
+pub at_found : {X : Type 0} (P Q : X → Type 0) (xs : List X) → All P xs → (found : Any Q xs) → P found.1
+at_found P Q xs all found = subst P found.3 (all found.0 found.1 found.2)

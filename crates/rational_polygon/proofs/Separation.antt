@@ -1,5 +1,5 @@
 -- A box that is apart from a polygon has no point of it.
-use Rattle.std.proofs.Common.{refl, subst, ℕ, ◌+◌, ◌≤◌, List, [], ◌∷◌, arith, inl, inr}
+use Rattle.std.proofs.Common.{refl, ℕ, ◌+◌, ◌≤◌, List, [], ◌∷◌, arith, inl, inr}
 use Rattle.std.specs.Prelude.{All, Any}
 use Rattle.ring_solver.specs.Expression.{var, num, ◌⊟◌, ◌⊠◌, opp}
 use Rattle.ring_solver.specs.Ordered.{le}
@@ -11,15 +11,16 @@ use Rattle.rational_polygon.specs.Point.{Point, turn}
 use Rattle.rational_polygon.specs.Square.{Square, dyadic, box_corner, IsInBox}
 use Rattle.rational_polygon.specs.Outline.{Outline, grid_point, corner, next, IsInPolygon}
 use Rattle.rational_polygon.specs.Apart.{IsApart}
+use Rattle.rational_polygon.proofs.Numbers.{at_found}
 
 -- where all lie above t and one at most at s, s is above t; and the same below
 gap_above : (f : ℕ × ℕ → ℚ) (cs : List (ℕ × ℕ)) (s t : ℚ) → All (λ c. t <ℚ f c) cs → Any (λ c. f c ≤ℚ s) cs → s ≤ℚ t → ⊥
 gap_above f cs s t all found h =
-    lt_not_le t (f found.1) (subst (λ c. t <ℚ f c) found.3 (all found.0 found.1 found.2)) (le_trans (f found.1) s t found.4 h)
+    lt_not_le t (f found.1) (at_found (λ c. t <ℚ f c) (λ c. f c ≤ℚ s) cs all found) (le_trans (f found.1) s t found.4 h)
 
 gap_below : (f : ℕ × ℕ → ℚ) (cs : List (ℕ × ℕ)) (s t : ℚ) → All (λ c. f c <ℚ t) cs → Any (λ c. s ≤ℚ f c) cs → t ≤ℚ s → ⊥
 gap_below f cs s t all found h =
-    lt_not_le (f found.1) t (subst (λ c. f c <ℚ t) found.3 (all found.0 found.1 found.2)) (le_trans t s (f found.1) h found.4)
+    lt_not_le (f found.1) t (at_found (λ c. f c <ℚ t) (λ c. s ≤ℚ f c) cs all found) (le_trans t s (f found.1) h found.4)
 
 -- a step along which the turn does not fall
 turn_grows : (a b p q : Point) → whole 0 ≤ℚ (b.x -ℚ a.x) *ℚ (q.y -ℚ p.y) → whole 0 ≤ℚ neg_ℚ (b.y -ℚ a.y) *ℚ (q.x -ℚ p.x) → turn a b p ≤ℚ turn a b q

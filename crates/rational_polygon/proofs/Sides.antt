@@ -1,32 +1,19 @@
 -- On which side of an edge between grid points a point lies, by whole numbers.
-use Rattle.std.proofs.Common.{◌≡◌, refl, sym, ap, ap₂, ◌∙◌, ℕ, ◌*◌, ◌<◌, Bool, true, false, not, T, cond, [], ◌∷◌, ℤ, pos, neg_ℤ, ◌-ℤ◌, ◌*ℤ◌, ◌<ℤ◌, Ordering, Less, Equal, Greater, int_cmp, arith, mul-pos, lt→ltb}
+use Rattle.std.proofs.Common.{◌≡◌, refl, sym, ap, ap₂, ◌∙◌, ℕ, ◌*◌, ◌<◌, Bool, true, false, not, T, cond, [], ◌∷◌, ℤ, pos, ◌-ℤ◌, ◌*ℤ◌, ◌<ℤ◌, Ordering, Less, Equal, Greater, int_cmp, arith, mul-pos, lt→ltb}
 use Rattle.std.specs.Prelude.{◌↔◌, IsTrue}
 use Rattle.std.specs.Ordering.{is_lt}
 use Rattle.std.proofs.Math.IntN.{zero-*ℤ}
 use Rattle.std.proofs.lemmas.Int.{ints}
-use Rattle.ring_solver.specs.Expression.{var, ◌⊞◌, ◌⊟◌, ◌⊠◌, opp}
-use Rattle.ring_solver.proofs.Solver.{ring, ring₃, ring₄}
+use Rattle.ring_solver.specs.Expression.{var, ◌⊟◌, ◌⊠◌}
+use Rattle.ring_solver.proofs.Solver.{ring}
 use Rattle.ring_solver.proofs.Whole.{ℤ_ring, *ℤ-pos_one}
-use Rattle.rat_core.specs.Fraction.{ℚ, ◌÷◌, whole, ◌+ℚ◌, ◌-ℚ◌, ◌*ℚ◌, at_most, ◌≤ℚ◌, ◌<ℚ◌}
+use Rattle.rat_core.specs.Fraction.{ℚ, ◌÷◌, whole, ◌-ℚ◌, ◌*ℚ◌, at_most, ◌≤ℚ◌, ◌<ℚ◌}
 use Rattle.rat_core.specs.Written.{order_of}
-use Rattle.rat_core.proofs.Laws.{over_same, over-add, over-product, over-neg, lt_le, le_or_lt}
+use Rattle.rat_core.proofs.Laws.{over_same, over-product, lt_le, le_or_lt}
 use Rattle.rat_core.proofs.Compare.{order_of_written}
+use Rattle.rat_core.proofs.Quotients.{over-sub, over-sub_same}
 use Rattle.rational_polygon.specs.Point.{turn}
 use Rattle.rational_polygon.specs.Outline.{grid_point}
-
--- a difference of quotients
-over-sub : (n m : ℤ) (d e : ℕ) → 0 < d → 0 < e → n ÷ d -ℚ m ÷ e ≡ (n *ℤ pos e -ℤ m *ℤ pos d) ÷ (d * e)
-over-sub n m d e p q =
-    ap (λ t. n ÷ d +ℚ t) (over-neg m e q)
-    ∙ over-add n (neg_ℤ m) d e p q
-    ∙ ap (λ t. t ÷ (d * e)) (ring₄ ℤ_ring (λ n m d e. n ⊠ e ⊞ opp m ⊠ d) (λ n m d e. n ⊠ e ⊟ m ⊠ d) refl n m (pos d) (pos e))
-
--- a difference over one denominator
-over-sub_same : (n m : ℤ) (d : ℕ) → 0 < d → n ÷ d -ℚ m ÷ d ≡ (n -ℤ m) ÷ d
-over-sub_same n m d p =
-    over-sub n m d d p p
-    ∙ over_same (n *ℤ pos d -ℤ m *ℤ pos d) (n -ℤ m) (d * d) d (mul-pos p p) p
-    (ring₃ ℤ_ring (λ n m d. (n ⊠ d ⊟ m ⊠ d) ⊠ d) (λ n m d. (n ⊟ m) ⊠ (d ⊠ d)) refl n m (pos d))
 
 -- what decides: the product of the run of the edge and the rise of the point, and of the rise of the edge and the run of the point
 abbrev pub product_at : ℕ → ℕ → ℕ → ℕ → ℤ → ℕ → ℕ → ℤ

@@ -15,11 +15,11 @@ pub record IsFirstOutside (outline : Outline) (k : ℕ) : Type 0 where
   pub outside : ¬ IsInsideAt outline k
   pub earlier : (l : ℕ) → IsNumber outline l → l < k → IsInsideAt outline l
 
--- the pair (k, l) stands lexically before (i, j)
+-- the pair (k, l) stands lexicographically before (i, j)
 abbrev pub IsBefore : ℕ → ℕ → ℕ → ℕ → Type 0
 IsBefore k l i j = (k < i) ⊎ ((k ≡ i) × (l < j))
 
--- (i, j) is the lexically least pair of an edge and a corner that is neither an end of it nor strictly left of it
+-- (i, j) is the lexicographically least pair of an edge and a corner that is neither an end of it nor strictly left of it
 pub record IsFirstTurn (outline : Outline) (i j : ℕ) : Type 0 where
   pub edge : IsNumber outline i
   pub corner : IsNumber outline j

@@ -12,7 +12,7 @@ pub enum PolygonFault {
     /// The first corner (X, Y) with X = 0, Y = 0 or X + Y at least the grid.
     #[error("corner {i} is not strictly inside the triangle of the grid")]
     Corner { i: u32 },
-    /// The lexically least edge and corner, where the corner is no end of the edge and not strictly left of it.
+    /// The lexicographically least edge and corner, where the corner is no end of the edge and not strictly left of it.
     #[error("corner {j} is not strictly left of edge {i}")]
     Turn { i: u32, j: u32 },
 }

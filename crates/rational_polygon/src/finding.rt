@@ -49,7 +49,7 @@ fn first_outside(grid: u32, corners: &[(u32, u32)]) -> Option<u32>
     None
 }
 
-// The lexically least edge and corner at which the corners are not convex.
+// The lexicographically least edge and corner at which the corners are not convex.
 fn first_turn(grid: u32, corners: &[(u32, u32)]) -> Option<(u32, u32)>
     requires grid { IsGrid grid }
     requires count { IsCount (length corners.now) }

@@ -1,5 +1,5 @@
 //! What follows from the definitions alone: each function's contract is a law.
-ghost use Rattle.rational_polygon.specs.Laws.{PolygonLiesInUnitSquare, ApartHoldsNone, ChildrenCover, ChildrenLieWithin, CornersAreTriangles};
+ghost use Rattle.rational_polygon.specs.Laws.{PolygonLiesInUnitSquare, ApartHoldsNone, ChildrenCover, ChildrenLieWithin, CornersAreTriangles, PointsAreTriangles};
 
 /// Every point of a polygon lies in the unit square.
 pub fn polygon_lies_in_unit_square()
@@ -24,4 +24,9 @@ pub fn children_lie_within()
 /// Each corner of a polygon is a triangle and a point of the polygon, so that a claim on all its points is never empty.
 pub fn corners_are_triangles()
     ensures { CornersAreTriangles }
+{}
+
+/// Every point of a polygon is a triangle, so that a claim on those points of it that are triangles leaves out none.
+pub fn points_are_triangles()
+    ensures { PointsAreTriangles }
 {}

@@ -122,7 +122,7 @@ fn holds_its_closed_inside(rt: HostRuntime) -> Result<(), Fail> {
 #[test]
 fn touching_is_not_apart(rt: HostRuntime) -> Result<(), Fail> {
     let polygon = Polygon::new(64, RIGHT.to_vec(rt.alloc())?)?;
-    // In a corner of the polygon, along an edge, in a corner of the box, and across.
+    // In a corner of the polygon, along an edge, in a corner of the box, in two corners at the greatest level, and over the whole polygon.
     assert!(rt;
         !GridBox {
             i: 32,

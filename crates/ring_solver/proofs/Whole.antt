@@ -1,5 +1,5 @@
 -- The whole numbers as a commutative ring, and their products in order.
-use Rattle.std.proofs.Common.{◌≡◌, refl, ap, ℕ, ◌+◌, ◌*◌, ◌<◌, ◌≤◌, ℤ, pos, negsuc, ◌+ℤ◌, ◌*ℤ◌, neg_ℤ, ◌≤ℤ◌, ◌<ℤ◌, arith, le_of_mul-le-mul_right, mul-le-mul_right, mul-lt-mul_of_pos_right, lt_of_mul-lt-mul_right, subst}
+use Rattle.std.proofs.Common.{◌≡◌, refl, ap, ℕ, ◌+◌, ◌*◌, ◌<◌, ◌≤◌, ℤ, pos, negsuc, ◌+ℤ◌, ◌*ℤ◌, neg_ℤ, ◌≤ℤ◌, ◌<ℤ◌, arith, le_of_mul-le-mul_right, mul-le-mul_right, mul-lt-mul_of_pos_right, lt_of_mul-lt-mul_right}
 use Rattle.std.specs.Int.Signed.{≤ℤ_refl}
 use Rattle.std.proofs.Math.IntN.{+ℤ_assoc, +ℤ_comm, +ℤ_idr, +ℤ_invr, *ℤ_comm}
 use borrow.Author.Differences.{up, down, same_in, at_most_in, below_in, le_out, lt_out, sum_is_lem, product_is}
@@ -58,8 +58,12 @@ pub ≤ℤ_antisym : (a b : ℤ) → a ≤ℤ b → b ≤ℤ a → a ≡ b
 pub +ℤ_mono : (c a b : ℤ) → a ≤ℤ b → (c +ℤ a) ≤ℤ (c +ℤ b)
 +ℤ_mono c a b h = at_most_in (c +ℤ a) (c +ℤ b) (omega (arith, le_out a b h, sum_is_lem c a, sum_is_lem c b))
 
+-- the order of natural numbers
+pub pos_le : (m n : ℕ) → m ≤ n → pos m ≤ℤ pos n
+pos_le m n h = at_most_in (pos m) (pos n) (omega arith)
+
 pub *ℤ_nonneg : (a b : ℤ) → pos 0 ≤ℤ a → pos 0 ≤ℤ b → pos 0 ≤ℤ (a *ℤ b)
-*ℤ_nonneg (pos a) (pos b) h k = at_most_in (pos 0) (pos (a * b)) (omega arith)
+*ℤ_nonneg (pos a) (pos b) h k = pos_le 0 (a * b) (omega arith)
 *ℤ_nonneg (pos a) (negsuc b) h k = absurd k.le
 *ℤ_nonneg (negsuc a) b h k = absurd h.le
 
@@ -96,9 +100,3 @@ pub *ℤ_mono_strict_back : (a b : ℤ) (d : ℕ) → (a *ℤ pos d) <ℤ (b *�
 *ℤ_mono_strict_back a b d h =
     below_in a b
     (lt_of_mul-lt-mul_right d (let k : (up a + down b) * d < (up b + down a) * d = omega (arith, product_is a (pos d), product_is b (pos d), lt_out (a *ℤ pos d) (b *ℤ pos d) h) in k))
-
--- a factor of an equation
-pub *ℤ_cancel : (a b : ℤ) (d : ℕ) → 0 < d → a *ℤ pos d ≡ b *ℤ pos d → a ≡ b
-*ℤ_cancel a b d p h =
-    ≤ℤ_antisym a b (*ℤ_mono_back a b d p (subst (λ t. (a *ℤ pos d) ≤ℤ t) h (≤ℤ_refl (a *ℤ pos d))))
-    (*ℤ_mono_back b a d p (subst (λ t. t ≤ℤ (a *ℤ pos d)) h (≤ℤ_refl (a *ℤ pos d))))

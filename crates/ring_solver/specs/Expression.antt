@@ -1,5 +1,5 @@
 -- Ring expressions, their value in a ring, and their polynomial. A polynomial has coefficients in ℕ, so an expression
--- has two: one for what is added and one for what is taken away.
+-- has two: one for what is added and one for what is taken away. The solver computes with these; no contract speaks of them.
 use Rattle.std.specs.Prelude.{◌≡◌, ℕ, zero, suc, ◌+◌, ◌*◌, Bool, true, false, cond, ◌&&◌, eqb, ltb, List, [], ◌∷◌}
 use Rattle.ring_solver.specs.Ring.{CommutativeRing}
 

@@ -1,4 +1,4 @@
--- Ordered commutative rings, and certificates for inequalities in one.
+-- Ordered commutative rings, and certificates for inequalities in one. Proofs use these; no contract speaks of them.
 use Rattle.std.specs.Prelude.{◌≡◌, List, [], ◌∷◌}
 use Rattle.ring_solver.specs.Ring.{CommutativeRing}
 use Rattle.ring_solver.specs.Expression.{Expression, num, ◌⊞◌, ◌⊠◌, evaluate}

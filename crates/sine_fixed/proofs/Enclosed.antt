@@ -1,53 +1,28 @@
 -- What the parts of the sine enclose.
-use Rattle.std.proofs.Common.{◌≡◌, refl, sym, subst, subst₂, ap, ◌∙◌, ℕ, ◌+◌, ◌*◌, ◌^◌, ◌<◌, ◌≤◌, true, false, ℤ, pos, negsuc, ◌+ℤ◌, ◌*ℤ◌, ◌≤ℤ◌, unsigned_abs, FitsSigned, [], ◌∷◌, arith, lit≤}
+use Rattle.std.proofs.Common.{◌≡◌, refl, sym, subst, ap, ◌∙◌, ℕ, ◌+◌, ◌*◌, ◌^◌, ◌<◌, ◌≤◌, true, false, ℤ, pos, negsuc, ◌+ℤ◌, ◌*ℤ◌, ◌≤ℤ◌, unsigned_abs, FitsSigned, [], ◌∷◌, arith}
 use Rattle.std.proofs.Math.Pow.{pow_mono}
 use Rattle.std.proofs.lemmas.Int.{ints, fits_signed_from_abs}
-use Rattle.std.proofs.lemmas.Nat.{pow_pos}
 use Rattle.std.specs.Int.{w128}
 use Rattle.ring_solver.specs.Expression.{num, ◌⊞◌, ◌⊟◌, ◌⊠◌, opp}
-use Rattle.ring_solver.specs.Ordered.{le, times, same}
+use Rattle.ring_solver.specs.Ordered.{le, times}
 use Rattle.ring_solver.proofs.Solver.{ring₁, ring₂, ring₃}
 use Rattle.ring_solver.proofs.Certificate.{le₃, le₄}
 use Rattle.ring_solver.proofs.Whole.{ℤ_ordered}
 use Rattle.rat_core.specs.Fraction.{ℚ, ◌÷◌, whole, ◌+ℚ◌, ◌-ℚ◌, ◌*ℚ◌, neg_ℚ, ◌≤ℚ◌, abs}
-use Rattle.rat_core.proofs.Laws.{ℚ_ring, ℚ_ordered, le_refl, le_trans, over-mul, over_le, int-mul, int-neg, mul_nonneg}
-use Rattle.rat_core.proofs.Order.{int_le_back, whole_le, whole_nonneg, over_nonneg, le_abs, neg_le_abs}
+use Rattle.rat_core.proofs.Laws.{ℚ_ring, ℚ_ordered, le_refl, over-mul, over_le, int-mul, int-neg, mul_nonneg}
+use Rattle.rat_core.proofs.Order.{whole_nonneg, over_nonneg, le_abs, neg_le_abs}
 use Rattle.trig_meaning.specs.PartialSums.{pi_sum, sine_sum}
 use Rattle.trig_meaning.specs.FromSomeOn.{FromSomeOn}
 use Rattle.trig_meaning.proofs.Tail.{sine_tail_small}
-use Rattle.trig_meaning.proofs.PiSums.{pi_at_least_three, pi_small, pi_sum_nonneg, quarter_small}
+use Rattle.trig_meaning.proofs.PiSums.{pi_sum_nonneg, quarter_small}
 use Rattle.directed_fixed.specs.Rounding.{IsFloor, IsCeiling}
 use Rattle.directed_fixed.specs.Ends.{Ends, Encloses}
 use Rattle.directed_fixed.proofs.Rounding.{rounded_at_least, rounded_at_most, rounded_in_order, product_size}
 use Rattle.directed_fixed.proofs.Enclosing.{quotient_encloses}
 use Rattle.directed_fixed.proofs.Sizes.{quotient_width}
+use Rattle.directed_fixed.proofs.PiSums.{pi_units}
 use Rattle.sine_fixed.specs.ReferenceAngle.{ReferenceAngle, IsReference, value}
 use Rattle.sine_fixed.specs.Narrow.{IsNarrow}
-
--- ---- pi
-
-pi_large : (n : ℕ) → 16 ≤ n → whole 1 ≤ℚ pi_sum n
-pi_large n h = le_trans (whole 1) (whole 3) (pi_sum n) (whole_le 1 3 (lit≤ tt)) (pi_at_least_three n h)
-
--- the units of pi at a scale: at least 0, and the lower end is at most 16/5
-pub pi_units : (bits : ℕ) (lo hi : ℤ) → FromSomeOn (λ n. Encloses bits (record { lo = lo; hi = hi }) (pi_sum n)) → hi ≡ lo +ℤ pos 1 → (pos 0 ≤ℤ lo) × ((pos 5 *ℤ lo) ≤ℤ pos (16 * 2 ^ bits))
-pi_units bits lo hi h next =
-    let n = h.0 + 16 in
-    let e : Encloses bits (record { lo = lo; hi = hi }) (pi_sum n) = h.1 n (omega arith) in
-    let late : 16 ≤ n = omega arith in
-    let unit = whole (2 ^ bits) in
-    let low : whole 5 *ℚ (lo ÷ 1) ≤ℚ whole 16 *ℚ unit =
-    le₄ ℚ_ordered (λ l p u s. num 5 ⊠ l) (λ l p u s. num 16 ⊠ u) (λ l p u s. times (num 5) l (p ⊠ u) ∷ times (num 5 ⊠ u) p s ∷ same u (s ⊠ num 5) (num 16) ∷ []) refl
-    (lo ÷ 1) (pi_sum n) unit (pos 16 ÷ 5) (whole_nonneg 5, e.low, (mul_nonneg (whole 5) unit (whole_nonneg 5) (whole_nonneg (2 ^ bits)), pi_small n late, (over-mul (pos 16) 5 (omega arith), tt)))
-    in
-    let high : unit ≤ℚ hi ÷ 1 =
-    le₃ ℚ_ordered (λ h p u. u) (λ h p u. h) (λ h p u. times u (num 1) p ∷ le (p ⊠ u) h ∷ []) refl (hi ÷ 1) (pi_sum n) unit (whole_nonneg (2 ^ bits), pi_large n late, (e.high, tt))
-    in
-    let positive : 0 < 2 ^ bits = pow_pos bits in
-    let units : pos (2 ^ bits) ≤ℤ hi = int_le_back (pos (2 ^ bits)) hi high in (
-      omega (arith, ints),
-      int_le_back (pos 5 *ℤ lo) (pos (16 * 2 ^ bits)) (subst₂ ◌≤ℚ◌ (sym (int-mul (pos 5) lo)) (sym (int-mul (pos 16) (pos (2 ^ bits)))) low),
-    )
 
 -- ---- the angle
 
@@ -69,12 +44,10 @@ angle_encloses bits pi x a d p positive low high h =
     in
     quotient_encloses bits exact x (pos d) (p *ℚ (pos a ÷ d)) (omega (arith, ints)) low high (subst (Encloses bits exact) (sym multiple) inside)
 
-pub angle_narrow : (bits : ℕ) (lo hi : ℤ) (x : Ends) (a d : ℕ) → 0 < d → 2 * a ≤ d → pos 0 ≤ℤ lo → (pos 5 *ℤ lo) ≤ℤ pos (16 * 2 ^ bits) → hi ≡ lo +ℤ pos 1 → 30 ≤ bits
+pub angle_narrow : (bits : ℕ) (lo hi : ℤ) (x : Ends) (a d : ℕ) → 0 < d → 2 * a ≤ d → pos 0 ≤ℤ lo → hi ≤ℤ pos (4 * 2 ^ bits) → hi ≡ lo +ℤ pos 1
     → IsFloor x.lo (lo *ℤ pos a) (pos d) → IsCeiling x.hi (hi *ℤ pos a) (pos d) → IsNarrow (2 * 2 ^ bits) 2 x
-angle_narrow bits lo hi x a d positive quarter nonneg units next large low high =
+angle_narrow bits lo hi x a d positive quarter nonneg pi_below next low high =
     let unit = 2 ^ bits in
-    let many : 2 ^ 30 ≤ 2 ^ bits = pow_mono large in
-    let pi_below : hi ≤ℤ (pos 4 *ℤ pos unit) = omega (arith, ints) in
     let half : (pos 2 *ℤ pos a) ≤ℤ pos d = omega (arith, ints) in
     let a_nonneg : pos 0 ≤ℤ pos a = omega (arith, ints) in
     let twice_nonneg : pos 0 ≤ℤ (pos 2 *ℤ pos unit) = omega (arith, ints) in
@@ -101,21 +74,21 @@ angle_narrow bits lo hi x a d positive quarter nonneg units next large low high 
     }
 
 -- both, for a numerator and a denominator that are whole numbers of the machine
-pub angle_lem : (bits : ℕ) (pi x : Ends) (a d : ℤ) → 30 ≤ bits → FromSomeOn (λ n. Encloses bits pi (pi_sum n)) → pi.hi ≡ pi.lo +ℤ pos 1 → pos 0 ≤ℤ a → pos 1 ≤ℤ d → 2 * unsigned_abs a ≤ unsigned_abs d
+pub angle_lem : (bits : ℕ) (pi x : Ends) (a d : ℤ) → FromSomeOn (λ n. Encloses bits pi (pi_sum n)) → pi.hi ≡ pi.lo +ℤ pos 1 → pos 0 ≤ℤ a → pos 1 ≤ℤ d → 2 * unsigned_abs a ≤ unsigned_abs d
     → IsFloor x.lo (pi.lo *ℤ a) d → IsCeiling x.hi (pi.hi *ℤ a) d → IsNarrow (2 * 2 ^ bits) 2 x × FromSomeOn (λ n. Encloses bits x (pi_sum n *ℚ (pos (unsigned_abs a) ÷ unsigned_abs d)))
-angle_lem bits pi x (pos a) (pos d) large between next nonneg positive quarter low high =
+angle_lem bits pi x (pos a) (pos d) between next nonneg positive quarter low high =
     let divisor : 0 < d = omega (arith, ints) in
-    let units = pi_units bits pi.lo pi.hi between next in (
-      angle_narrow bits pi.lo pi.hi x a d divisor quarter units.0 units.1 next large low high,
+    let units = pi_units bits pi.lo pi.hi next between in (
+      angle_narrow bits pi.lo pi.hi x a d divisor quarter units.0 units.1 next low high,
       (between.0, λ n l. angle_encloses bits pi x a d (pi_sum n) divisor low high (between.1 n l)),
     )
-angle_lem bits pi x (pos a) (negsuc d) large between next nonneg positive quarter low high = absurd positive.le
-angle_lem bits pi x (negsuc a) d large between next nonneg positive quarter low high = absurd nonneg.le
+angle_lem bits pi x (pos a) (negsuc d) between next nonneg positive quarter low high = absurd positive.le
+angle_lem bits pi x (negsuc a) d between next nonneg positive quarter low high = absurd nonneg.le
 
 -- pi's units times a numerator
 pub pi_size : (bits : ℕ) (lo hi : ℤ) → bits ≤ 60 → FromSomeOn (λ n. Encloses bits (record { lo = lo; hi = hi }) (pi_sum n)) → hi ≡ lo +ℤ pos 1 → (unsigned_abs lo ≤ 2 ^ 62) × (unsigned_abs hi ≤ 2 ^ 62)
 pi_size bits lo hi room between next =
-    let units = pi_units bits lo hi between next in
+    let units = pi_units bits lo hi next between in
     let nonneg = units.0 in
     let small = units.1 in
     let many : 2 ^ bits ≤ 2 ^ 60 = pow_mono room in

@@ -4,7 +4,7 @@ use Rattle.std.proofs.lemmas.Int.{ints}
 use Rattle.ring_solver.specs.Expression.{var, num, ◌⊞◌, ◌⊠◌}
 use Rattle.ring_solver.specs.Ordered.{times}
 use Rattle.ring_solver.proofs.Certificate.{certified, le₃, le₄}
-use Rattle.ring_solver.proofs.Whole.{ℤ_ordered, ≤ℤ_trans}
+use Rattle.ring_solver.proofs.Whole.{ℤ_ordered, pos_le, ≤ℤ_trans}
 use Rattle.directed_fixed.specs.Rounding.{IsFloor, IsCeiling}
 use Rattle.directed_fixed.specs.Ends.{Ends, IsWithin, sum_of, difference_of, least_product, greatest_product}
 use Rattle.directed_fixed.proofs.Rounding.{outer_has, rounded_at_least, rounded_at_most, rounded_in_order}
@@ -17,9 +17,6 @@ narrow_within x most width size h l =
     let in_order = h.in_order in
     let at_most = h.at_most in
     record { low = omega (arith, ints); high = omega (arith, ints) }
-
-pos_le : (m n : ℕ) → m ≤ n → pos m ≤ℤ pos n
-pos_le m n h = omega (arith, ints)
 
 upper_nonneg : (x : Ends) (most width : ℕ) → IsNarrow most width x → pos 0 ≤ℤ x.hi
 upper_nonneg x most width h = ≤ℤ_trans (pos 0) x.lo x.hi h.nonneg h.in_order

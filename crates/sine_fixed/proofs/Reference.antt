@@ -1,5 +1,5 @@
 -- The four cases of the reference angle, for whole numbers: den half parts to a quarter turn, and rest parts of the turn.
-use Rattle.std.proofs.Common.{◌≡◌, refl, sym, subst, ap, ap₂, ◌∙◌, ℕ, ◌*◌, ◌^◌, ◌<◌, ◌≤◌, Bool, true, false, cond, not, T, ℤ, pos, negsuc, ◌-ℤ◌, ◌*ℤ◌, neg_ℤ, ◌≤ℤ◌, ◌<ℤ◌, unsigned_abs, FitsSigned, arith}
+use Rattle.std.proofs.Common.{◌≡◌, refl, sym, subst, ap, ap₂, ◌∙◌, ℕ, ◌*◌, ◌^◌, ◌<◌, ◌≤◌, Bool, true, false, cond, not, T, ℤ, pos, negsuc, ◌-ℤ◌, ◌*ℤ◌, ◌≤ℤ◌, ◌<ℤ◌, unsigned_abs, FitsSigned, arith}
 use Rattle.std.specs.Int.{w128, int_rem_euclid}
 use Rattle.std.proofs.lemmas.Int.{ints, fits_signed_from_abs}
 use Rattle.std.specs.Int.Signed.{le_z_yes}
@@ -8,8 +8,8 @@ use borrow.Author.Differences.{below_in, le_not}
 use Rattle.ring_solver.specs.Expression.{num, ◌⊟◌, ◌⊠◌}
 use Rattle.ring_solver.proofs.Solver.{ring₂, ring₃}
 use Rattle.ring_solver.proofs.Division.{rem_euclid_below}
-use Rattle.rat_core.specs.Fraction.{ℚ, ◌÷◌, whole, ◌+ℚ◌, ◌-ℚ◌, ◌*ℚ◌, neg_ℚ, at_most, ◌≤ℚ◌, ◌<ℚ◌, wrapped}
-use Rattle.rat_core.proofs.Laws.{ℚ_ring, over-mul, over_le, over_lt, int-add, int-mul, int-neg, le_trans}
+use Rattle.rat_core.specs.Fraction.{ℚ, ◌÷◌, whole, ◌-ℚ◌, ◌*ℚ◌, neg_ℚ, at_most, ◌≤ℚ◌, ◌<ℚ◌, wrapped}
+use Rattle.rat_core.proofs.Laws.{ℚ_ring, over-mul, over_le, over_lt, int-mul, int-sub, le_trans}
 use Rattle.rat_core.proofs.Order.{cancel}
 use Rattle.rat_core.proofs.Wrapped.{wrapped-over}
 use Rattle.trig_meaning.specs.PartialSums.{pi_sum, sine_sum}
@@ -38,9 +38,6 @@ at_most_false x y h = is_false (at_most x y) h.lt
 -- x is n / d, if d times x is n
 quotient_is : (n : ℤ) (d : ℕ) (x : ℚ) → 0 < d → x *ℚ whole d ≡ n ÷ 1 → n ÷ d ≡ x
 quotient_is n d x p h = cancel d p (n ÷ d) x (over-mul n d p ∙ sym h)
-
-int-sub : (a b : ℤ) → (a -ℤ b) ÷ 1 ≡ a ÷ 1 -ℚ b ÷ 1
-int-sub a b = int-add a (neg_ℤ b) ∙ ap (λ t. a ÷ 1 +ℚ t) (int-neg b)
 
 -- whole numbers less a quotient, and a quotient less 1
 less_quotient : (k : ℕ) (n : ℤ) (d : ℕ) → 0 < d → (pos k *ℤ pos d -ℤ n) ÷ d ≡ whole k -ℚ n ÷ d

@@ -1,5 +1,5 @@
--- The four pieces: they agree where they meet, each is the approximation on its closed quarter of the turn, and the
--- approximation is odd.
+-- The four pieces: they agree where they meet, and each is the approximation on its closed quarter of the turn. The
+-- approximation is odd, half a turn turns its sign, and whole turns keep it.
 use mathlib.Core.Quot.{sound}
 use Rattle.std.proofs.Common.{◌≡◌, refl, sym, ap, ◌∙◌, subst, ℕ, Bool, true, false, cond, not, T, pos, [], ◌∷◌}
 use Rattle.ring_solver.specs.Expression.{num, ◌⊞◌, ◌⊟◌, ◌⊠◌, opp}
@@ -8,10 +8,11 @@ use Rattle.ring_solver.proofs.Solver.{ring₁}
 use Rattle.ring_solver.proofs.Certificate.{le₁, le₃}
 use Rattle.rat_core.specs.Fraction.{ℚ, ◌÷◌, whole, ◌+ℚ◌, ◌-ℚ◌, ◌*ℚ◌, neg_ℚ, at_most, ◌≤ℚ◌, ◌<ℚ◌, wrapped}
 use Rattle.rat_core.proofs.Laws.{ℚ_ring, ℚ_ordered, le_trans, le_antisym, le_or_lt, lt_not_le, lt_le}
-use Rattle.rat_core.proofs.Wrapped.{wrapped_low, wrapped-neg_inside, wrapped-neg_zero}
+use Rattle.rat_core.proofs.Order.{difference_nonneg}
+use Rattle.rat_core.proofs.Wrapped.{wrapped_low, wrapped_high, wrapped-turns, wrapped-half_low, wrapped-half_high, wrapped-neg_inside, wrapped-neg_zero}
 use Rattle.trig_meaning.specs.PartialSums.{pi_sum, sine_sum}
 use Rattle.trig_meaning.specs.Turn.{first_piece, second_piece, third_piece, fourth_piece, sine_within_turn, sine_of_turn}
-use Rattle.trig_meaning.specs.Laws.{PiecesAgree, SineIsOdd}
+use Rattle.trig_meaning.specs.Laws.{PiecesAgree, SineIsOdd, HalfTurnNegates, WholeTurnsKeep}
 use Rattle.trig_meaning.proofs.Odd.{sine_sum-neg}
 
 -- ---- halves
@@ -23,6 +24,10 @@ half_apart = sound refl
 three_halves_apart : pos 3 ÷ 2 -ℚ whole 1 ≡ whole 2 -ℚ pos 3 ÷ 2
 unfolding ◌+ℚ◌ neg_ℚ ◌÷◌
 three_halves_apart = sound refl
+
+half_more : pos 1 ÷ 2 +ℚ whole 1 ≡ pos 3 ÷ 2
+unfolding ◌+ℚ◌ ◌÷◌
+half_more = sound refl
 
 -- 1/2 + 3/2
 pub halves_add : pos 1 ÷ 2 +ℚ pos 3 ÷ 2 ≡ whole 2
@@ -92,6 +97,9 @@ on_fourth n t l =
 
 -- ---- the second half of the turn mirrors the first
 
+twice_neg : (x : ℚ) → x ≡ neg_ℚ (neg_ℚ x)
+twice_neg = ring₁ ℚ_ring (λ x. x) (λ x. opp (opp x)) refl
+
 pub sine_within_turn-mirrored : (n : ℕ) (t : ℚ) → sine_within_turn n (whole 2 -ℚ t) ≡ neg_ℚ (sine_within_turn n t)
 sine_within_turn-mirrored n t =
     le_or_lt t (pos 1 ÷ 2)
@@ -114,9 +122,6 @@ sine_within_turn-mirrored n t =
     at_same : (n : ℕ) (x y : ℚ) → x ≡ y → sine_sum n (pi_sum n *ℚ x) ≡ sine_sum n (pi_sum n *ℚ y)
     at_same n x y e = ap (λ t. sine_sum n (pi_sum n *ℚ t)) e
 
-    twice_neg : (x : ℚ) → x ≡ neg_ℚ (neg_ℚ x)
-    twice_neg = ring₁ ℚ_ring (λ x. x) (λ x. opp (opp x)) refl
-
 -- ---- the approximation is odd
 
 pub sine_at_zero : (n : ℕ) → sine_within_turn n (whole 0) ≡ neg_ℚ (sine_within_turn n (whole 0))
@@ -133,3 +138,31 @@ sine_is_odd_lem n t =
     (λ h. let z = le_antisym (wrapped t) (whole 0) h (wrapped_low t) in
     ap (sine_within_turn n) (wrapped-neg_zero t z) ∙ sine_at_zero n ∙ ap (λ w. neg_ℚ (sine_within_turn n w)) (sym z))
     (λ p. ap (sine_within_turn n) (wrapped-neg_inside t p) ∙ sine_within_turn-mirrored n (wrapped t))
+
+-- ---- half a turn more, and whole turns
+
+half_turned : (n : ℕ) (t : ℚ) → whole 0 ≤ℚ t → t ≤ℚ whole 1 → sine_within_turn n (t +ℚ whole 1) ≡ neg_ℚ (sine_within_turn n t)
+half_turned n t low high =
+    le_or_lt t (pos 1 ÷ 2)
+    (λ h. on_third n (t +ℚ whole 1) (le₁ ℚ_ordered (λ t. num 1) (λ t. t ⊞ num 1) (λ t. le (num 0) t ∷ []) refl t (low, tt))
+    (le₃ ℚ_ordered (λ t a b. t ⊞ num 1) (λ t a b. b) (λ t a b. le t a ∷ same (num 1) (a ⊞ num 1) b ∷ []) refl t (pos 1 ÷ 2) (pos 3 ÷ 2) (h, (half_more, tt)))
+    ∙ ap neg_ℚ (ap (first_piece n) (ring₁ ℚ_ring (λ t. t ⊞ num 1 ⊟ num 1) (λ t. t) refl t) ∙ sym (on_first n t h)))
+    (λ l. on_fourth n (t +ℚ whole 1)
+    (le₃ ℚ_ordered (λ t a b. b) (λ t a b. t ⊞ num 1) (λ t a b. le a t ∷ same (num 1) b (a ⊞ num 1) ∷ []) refl t (pos 1 ÷ 2) (pos 3 ÷ 2) (lt_le (pos 1 ÷ 2) t l, (sym half_more, tt)))
+    ∙ ap neg_ℚ (ap (first_piece n) (ring₁ ℚ_ring (λ t. num 2 ⊟ (t ⊞ num 1)) (λ t. num 1 ⊟ t) refl t) ∙ sym (on_second n t (lt_le (pos 1 ÷ 2) t l) high)))
+
+pub half_turn_negates_lem : HalfTurnNegates
+unfolding sine_of_turn
+half_turn_negates_lem n t =
+    let w = wrapped t in
+    let v = w -ℚ whole 1 in
+    let S = sine_within_turn n in
+    le_or_lt (whole 1) w
+    (λ h. let small : v ≤ℚ whole 1 = le₁ ℚ_ordered (λ w. w ⊟ num 1) (λ w. num 1) (λ w. le w (num 2) ∷ []) refl w (lt_le w (whole 2) (wrapped_high t), tt) in
+    ap S (wrapped-half_high t h) ∙ twice_neg (S v)
+    ∙ ap neg_ℚ (sym (half_turned n v (difference_nonneg (whole 1) w h) small) ∙ ap S (ring₁ ℚ_ring (λ w. w ⊟ num 1 ⊞ num 1) (λ w. w) refl w)))
+    (λ l. ap S (wrapped-half_low t l) ∙ half_turned n w (wrapped_low t) (lt_le w (whole 1) l))
+
+pub whole_turns_keep_lem : WholeTurnsKeep
+unfolding sine_of_turn
+whole_turns_keep_lem n t k = ap (sine_within_turn n) (wrapped-turns t k)

@@ -8,10 +8,10 @@ use Rattle.ring_solver.proofs.Solver.{ring₁, ring₂, ring₄}
 use Rattle.ring_solver.proofs.Certificate.{le₂, le₄, le₅, moved}
 use Rattle.rat_core.specs.Fraction.{ℚ, ◌÷◌, whole, ◌+ℚ◌, ◌-ℚ◌, ◌*ℚ◌, at_most, ◌≤ℚ◌, abs}
 use Rattle.rat_core.proofs.Laws.{ℚ_ring, ℚ_ordered, int-mul, le_trans, mul_nonneg}
-use Rattle.rat_core.proofs.Order.{whole_le, whole_nonneg, over_nonneg, difference_nonneg}
+use Rattle.rat_core.proofs.Order.{whole_le, whole_nonneg, over_nonneg, over_part, difference_nonneg}
 use Rattle.trig_meaning.specs.PartialSums.{sum_to, sign, power, factorial, sine_sum}
 use Rattle.trig_meaning.proofs.Alternating.{alternating, sum_to-same, sum_alternating, within_first}
-use Rattle.trig_meaning.proofs.Tail.{sine_term, power_mono, factorial_positive, over_part}
+use Rattle.trig_meaning.proofs.Tail.{sine_term, power_mono, factorial_positive}
 
 sum_to-difference : (f g : ℕ → ℚ) (n : ℕ) → sum_to f n -ℚ sum_to g n ≡ sum_to (λ j. f j -ℚ g j) n
 sum_to-difference f g zero = refl
@@ -73,7 +73,7 @@ module _ (a b : ℚ) (b_nonneg : whole 0 ≤ℚ b) (in_order : b ≤ℚ a) (a_sm
       let i = pos 1 ÷ (q * factorial (suc k)) in
       moved ℚ_ordered
       (ap (λ t. gap (suc (suc (suc k))) *ℚ (pos 1 ÷ t)) (mul_assoc (suc (suc (suc k))) (suc (suc k)) (factorial (suc k))))
-      (ap (λ t. whole c *ℚ (gap (suc k) *ℚ t)) (over_part q (factorial (suc k)) (mul-pos (zero-lt-suc (suc (suc k))) (zero-lt-suc (suc k))) (factorial_positive (suc k))))
+      (ap (λ t. whole c *ℚ (gap (suc k) *ℚ t)) (over_part (pos 1) q (factorial (suc k)) (mul-pos (zero-lt-suc (suc (suc k))) (zero-lt-suc (suc k))) (factorial_positive (suc k))))
       (le₅ ℚ_ordered (λ e d i q c. e ⊠ i) (λ e d i q c. c ⊠ (d ⊠ (i ⊠ q))) (λ e d i q c. times i e (num 8 ⊠ d) ∷ times (d ⊠ i) (num 8) (c ⊠ q) ∷ []) refl
       (gap (suc (suc (suc k)))) (gap (suc k)) i (whole q) (whole c)
       (over_nonneg 1 (q * factorial (suc k)), gap_step k, (mul_nonneg (gap (suc k)) i (gap_nonneg (suc k)) (over_nonneg 1 (q * factorial (suc k))), moved ℚ_ordered refl (int-mul (pos c) (pos q)) (whole_le 8 (c * q) large), tt)))

@@ -1,14 +1,12 @@
 -- The tail of the sine series, for 0 ≤ z ≤ 8/5: within the first term left out, and far below 2^−60 after the term 11.
-use Rattle.std.proofs.Common.{◌≡◌, refl, sym, ap, ap₂, ◌∙◌, subst, ℕ, zero, suc, ◌+◌, ◌*◌, ◌^◌, ◌<◌, ◌≤◌, pos, [], ◌∷◌, arith, lit<, lit≤, mul-pos, mul_assoc, mul-le-mul, zero-lt-suc, pow_mono, ◌*ℤ◌}
+use Rattle.std.proofs.Common.{◌≡◌, refl, sym, ap, ap₂, subst, ℕ, zero, suc, ◌+◌, ◌*◌, ◌^◌, ◌<◌, ◌≤◌, pos, [], ◌∷◌, arith, lit<, lit≤, mul-pos, mul_assoc, mul-le-mul, zero-lt-suc, pow_mono}
 use Rattle.std.proofs.Math.Nat.{le_trans as le_trans_ℕ}
-use Rattle.ring_solver.specs.Expression.{num, ◌⊠◌}
+use Rattle.ring_solver.specs.Expression.{◌⊠◌}
 use Rattle.ring_solver.specs.Ordered.{times}
-use Rattle.ring_solver.proofs.Solver.{ring₂}
 use Rattle.ring_solver.proofs.Certificate.{le₄, moved}
-use Rattle.ring_solver.proofs.Whole.{ℤ_ring}
 use Rattle.rat_core.specs.Fraction.{ℚ, ◌÷◌, whole, ◌-ℚ◌, ◌*ℚ◌, at_most, ◌≤ℚ◌, abs}
-use Rattle.rat_core.proofs.Laws.{ℚ_ordered, le_refl, le_trans, mul_nonneg, over_same, over-product}
-use Rattle.rat_core.proofs.Order.{whole_le, whole_nonneg, over_nonneg, mul_mono_both}
+use Rattle.rat_core.proofs.Laws.{ℚ_ordered, le_refl, le_trans, mul_nonneg}
+use Rattle.rat_core.proofs.Order.{whole_le, whole_nonneg, over_nonneg, over_part, mul_mono_both}
 use Rattle.trig_meaning.specs.PartialSums.{power, factorial, sine_sum}
 use Rattle.trig_meaning.proofs.Alternating.{alternating, IsFalling, sum_alternating, tail_within}
 
@@ -33,12 +31,6 @@ power_mono z w h l (suc k) = mul_mono_both z w (power z k) (power w k) (power_no
 pub factorial_positive : (k : ℕ) → 0 < factorial k
 factorial_positive zero = lit< tt
 factorial_positive (suc k) = mul-pos (omega arith) (factorial_positive k)
-
--- 1 / (c·d) times c is 1 / d
-pub over_part : (c d : ℕ) → 0 < c → 0 < d → (pos 1 ÷ (c * d)) *ℚ whole c ≡ pos 1 ÷ d
-over_part c d p q =
-    over-product (pos 1) (pos c) (c * d) 1 (mul-pos p q) (lit< tt)
-    ∙ over_same (pos 1 *ℤ pos c) (pos 1) (c * d * 1) d (mul-pos (mul-pos p q) (lit< tt)) q (ring₂ ℤ_ring (λ c d. num 1 ⊠ c ⊠ d) (λ c d. num 1 ⊠ (c ⊠ d ⊠ num 1)) refl (pos c) (pos d))
 
 -- ---- the terms fall
 
@@ -74,7 +66,7 @@ two_steps z h l k m =
     let i = pos 1 ÷ (c * factorial k) in
     moved ℚ_ordered
     (ap (λ t. power z (suc (suc k)) *ℚ (pos 1 ÷ t)) (mul_assoc (suc (suc k)) (suc k) (factorial k)))
-    (ap (λ t. power z k *ℚ t) (over_part c (factorial k) (mul-pos (zero-lt-suc (suc k)) (zero-lt-suc k)) (factorial_positive k)))
+    (ap (λ t. power z k *ℚ t) (over_part (pos 1) c (factorial k) (mul-pos (zero-lt-suc (suc k)) (zero-lt-suc k)) (factorial_positive k)))
     (le₄ ℚ_ordered (λ z p i c. z ⊠ (z ⊠ p) ⊠ i) (λ z p i c. p ⊠ (i ⊠ c)) (λ z p i c. times (p ⊠ i) (z ⊠ z) c ∷ []) refl
     z (power z k) i (whole c) (mul_nonneg (power z k) i (power_nonneg z h k) (over_nonneg 1 (c * factorial k)), square_small z h l c (factors_large k m), tt))
 

@@ -1,9 +1,13 @@
 -- The sentences of the laws.
-use Rattle.std.specs.Prelude.{◌≡◌, ℕ, pos}
-use Rattle.rat_core.specs.Fraction.{ℚ, ◌÷◌, whole, ◌-ℚ◌, ◌*ℚ◌, neg_ℚ, ◌≤ℚ◌, abs}
+use Rattle.std.specs.Prelude.{◌≡◌, ℕ, ℤ, pos}
+use Rattle.rat_core.specs.Fraction.{ℚ, ◌÷◌, whole, ◌+ℚ◌, ◌-ℚ◌, ◌*ℚ◌, neg_ℚ, ◌≤ℚ◌, abs}
+use Rattle.exp_sums.specs.declared.direction.Dir.{Dir}
+use Rattle.exp_sums.specs.FormalPoint.{FormalPoint, monomial, ◌+ₚ◌}
+use Rattle.exp_sums.specs.SineForm.{sine_form}
 use Rattle.trig_meaning.specs.PartialSums.{pi_sum}
 use Rattle.trig_meaning.specs.Turn.{first_piece, second_piece, third_piece, fourth_piece, sine_of_turn}
 use Rattle.trig_meaning.specs.FromSomeOn.{FromSomeOn}
+use Rattle.trig_meaning.specs.Value.{turn_of, value_at, second_coordinate}
 
 -- where two pieces meet, they agree: at 0 (which is 2), 1/2, 1 and 3/2
 pub record PiecesAgree : Type 0 where
@@ -15,6 +19,23 @@ pub record PiecesAgree : Type 0 where
 abbrev pub SineIsOdd : Type 0
 SineIsOdd = (n : ℕ) (t : ℚ) → sine_of_turn n (neg_ℚ t) ≡ neg_ℚ (sine_of_turn n t)
 
+-- half a turn more, which is t + 1, has the opposite sine
+abbrev pub HalfTurnNegates : Type 0
+HalfTurnNegates = (n : ℕ) (t : ℚ) → sine_of_turn n (t +ℚ whole 1) ≡ neg_ℚ (sine_of_turn n t)
+
+-- k whole turns more, which is t + 2k, have the same sine
+abbrev pub WholeTurnsKeep : Type 0
+WholeTurnsKeep = (n : ℕ) (t : ℚ) (k : ℤ) → sine_of_turn n (t +ℚ whole 2 *ℚ (k ÷ 1)) ≡ sine_of_turn n t
+
 -- from some n on, the approximation changes by at most pi times as much as t does, for all fractions alike
 abbrev pub SineIsLipschitz : Type 0
 SineIsLipschitz = FromSomeOn (λ n. (t u : ℚ) → abs (sine_of_turn n t -ℚ sine_of_turn n u) ≤ℚ pi_sum n *ℚ abs (t -ℚ u))
+
+-- the value of a single term, and of a sum
+pub record ValuesAddUp : Type 0 where
+  pub of_term : (n : ℕ) (c : ℤ) (d : Dir) (x y : ℚ) → value_at n (monomial c d) x y ≡ (c ÷ 1) *ℚ sine_of_turn n (turn_of d x y)
+  pub of_sum : (n : ℕ) (p q : FormalPoint) (x y : ℚ) → value_at n (p +ₚ q) x y ≡ value_at n p x y +ℚ value_at n q x y
+
+-- the sine form of a point has the point's second coordinate as its value
+abbrev pub SineFormsAreSecondCoordinates : Type 0
+SineFormsAreSecondCoordinates = (n : ℕ) (p : FormalPoint) (x y : ℚ) → value_at n (sine_form p) x y ≡ second_coordinate n p x y

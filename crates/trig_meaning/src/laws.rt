@@ -1,6 +1,6 @@
 //! Laws of the approximations, each a function whose contract is the law. The program calls none of them.
 
-ghost use Rattle.trig_meaning.specs.Laws.{PiecesAgree, SineIsLipschitz, SineIsOdd};
+ghost use Rattle.trig_meaning.specs.Laws.{PiecesAgree, SineIsOdd, HalfTurnNegates, WholeTurnsKeep, SineIsLipschitz, ValuesAddUp, SineFormsAreSecondCoordinates};
 
 /// The four pieces of the approximation of sin(pi·t) agree where they meet, at t = 0, 1/2, 1 and 3/2, for every n.
 pub fn pieces_agree()
@@ -12,8 +12,30 @@ pub fn sine_is_odd()
     ensures { SineIsOdd }
 {}
 
+/// Half a turn more, which is t + 1, turns the sign of the approximation of sin(pi·t), for every n and every fraction t.
+pub fn half_turn_negates()
+    ensures { HalfTurnNegates }
+{}
+
+/// Whole turns keep the approximation of sin(pi·t): it is the same at t + 2k, for every n, every fraction t and every whole
+/// number k.
+pub fn whole_turns_keep()
+    ensures { WholeTurnsKeep }
+{}
+
 /// From some n on, the approximation of sin(pi·t) has the approximation of pi as a Lipschitz constant: between any two
 /// fractions it changes by at most that many times their distance. One n serves all fractions.
 pub fn sine_is_lipschitz()
     ensures { SineIsLipschitz }
+{}
+
+/// The value of a single term c·(m, n) at (x, y) is c·sin(pi·(mx + ny)), and the value of a sum is the sum of the values, for
+/// every approximation. Every formal point is a sum of single terms.
+pub fn values_add_up()
+    ensures { ValuesAddUp }
+{}
+
+/// The value of the sine form of a formal point is the second coordinate of the point, for every approximation.
+pub fn sine_forms_are_second_coordinates()
+    ensures { SineFormsAreSecondCoordinates }
 {}

@@ -12,6 +12,7 @@ use Rattle.edge_words.specs.Letters.{IsLetter, IsPlace}
 use Rattle.edge_words.specs.Word.{IsWord, NeighboursDiffer}
 use Rattle.edge_words.specs.Stable.{count_of}
 use Rattle.exp_sums.specs.declared.direction.Dir.{Dir}
+use Rattle.edge_words.proofs.Balance.{once, count_of-cons}
 use Rattle.exp_sums.specs.FormalPoint.{monomial, zero_point, negative, ◌+ₚ◌, ◌-ₚ◌}
 use Rattle.exp_sums.specs.Limits.{weight, IsNear, IsWithin}
 use Rattle.exp_sums.proofs.PointRing.{point_ring}
@@ -21,7 +22,7 @@ use Rattle.unfolding.specs.Triangle.{next_corner, corner_dir, mirrors, corner_of
 use Rattle.unfolding.specs.Signed.{sign_of, signed_point}
 use Rattle.unfolding.specs.declared.signed.Signed.{Signed}
 use Rattle.unfolding.specs.Walk.{turned, seen_of}
-use Rattle.unfolding.proofs.Turned.{once, count_of-cons, turned-near-m, turned-near-n}
+use Rattle.unfolding.proofs.Turned.{turned-near-m, turned-near-n}
 use Rattle.unfolding.proofs.Seen.{corner_is_seen, centre-snoc}
 
 -- ---- how far directions reach

@@ -1,13 +1,14 @@
 -- How the directions of corners turn along a word: the next step, how far they reach, and where they come back.
-use Rattle.std.proofs.Common.{◌≡◌, ℕ, zero, suc, ◌+◌, ◌*◌, ◌%◌, ◌≤◌, ◌==◌, Bool, true, false, not, List, [], ◌∷◌, ◌++◌, length, ℤ, pos, ◌+ℤ◌, neg_ℤ, if◌then◌else◌, refl, sym, ap, ◌∙◌, arith}
+use Rattle.std.proofs.Common.{◌≡◌, ℕ, zero, suc, ◌+◌, ◌*◌, ◌%◌, ◌≤◌, ◌==◌, Bool, true, false, not, List, [], ◌∷◌, ◌++◌, length, ℤ, pos, ◌+ℤ◌, neg_ℤ, if◌then◌else◌, refl, ap, ◌∙◌, arith}
 use Rattle.std.proofs.lemmas.Int.{ints}
 use Rattle.std.proofs.lemmas.Bool.Decides.{nat_tests}
 use Rattle.std.proofs.lemmas.List.Elements.{All-head, All-tail, All-cons}
-use Rattle.std.proofs.lemmas.List.Sums.{sum_by-cons}
 use Rattle.std.specs.List.{All}
 use Rattle.std.specs.Int.RustNames.{unsigned_abs}
 use Rattle.edge_words.specs.Letters.{IsLetter}
 use Rattle.edge_words.specs.Stable.{count_of, at_odd_places, at_even_places, IsStable}
+use Rattle.edge_words.proofs.Balance.{once, count_of-cons}
+use Rattle.edge_words.proofs.Places.{places-cons}
 use Rattle.exp_sums.specs.declared.direction.Dir.{Dir}
 use Rattle.unfolding.specs.Triangle.{next_corner, corner_dir}
 use Rattle.unfolding.specs.Walk.{is_turned_over, edge_dir, turned}
@@ -35,13 +36,6 @@ letter_cases P (suc (suc zero)) h one two three = two
 letter_cases P (suc (suc (suc zero))) h one two three = three
 letter_cases P (suc (suc (suc (suc d)))) h one two three = absurd (omega (arith, h))
 
--- 1 for the letter that is counted
-abbrev pub once : ℕ → ℕ → ℕ
-once x y = if y == x then 1 else 0
-
-pub count_of-cons : (x y : ℕ) (w : List ℕ) → count_of x (y ∷ w) ≡ once x y + count_of x w
-count_of-cons x y w = sum_by-cons _ y w
-
 -- letter 2 alone moves the first number, and letter 1 alone the second
 edge_dir-m : (d : ℕ) → IsLetter d → (edge_dir d).m ≡ pos (2 * once 2 d)
 edge_dir-m d h = letter_cases (λ d. (edge_dir d).m ≡ pos (2 * once 2 d)) d h refl refl refl
@@ -66,13 +60,6 @@ turned-near-n (d ∷ w) e h =
     let rest = turned-near-n w e (All-tail IsLetter d w h) in
     omega (arith, ints, here, count, rest)
 
--- one letter more in front exchanges the places
-at_places-cons : (x : ℕ) (w : List ℕ) → (at_odd_places (x ∷ w) ≡ x ∷ at_even_places w) × (at_even_places (x ∷ w) ≡ at_odd_places w)
-at_places-cons x [] = (refl, refl)
-at_places-cons x (y ∷ w) =
-    let rest = at_places-cons y w in
-    (ap (λ v. x ∷ v) (sym rest.1), sym rest.0)
-
 -- z, or its negative where b
 oriented : Bool → ℤ → ℤ
 oriented b z = if b then neg_ℤ z else z
@@ -90,7 +77,7 @@ turned-counts-m [] e h = omega (arith, ints)
 turned-counts-m (d ∷ w) e h =
     let here = edge_dir-m d (All-head IsLetter d w h) in
     let rest = turned-counts-m w e (All-tail IsLetter d w h) in
-    let places = at_places-cons d w in
+    let places = places-cons d w in
     rw (places.0, places.1, count_of-cons 2 d (at_even_places w))
     (omega (arith, ints, here, rest, oriented-not (is_turned_over w) e.m))
 
@@ -101,7 +88,7 @@ turned-counts-n [] e h = omega (arith, ints)
 turned-counts-n (d ∷ w) e h =
     let here = edge_dir-n d (All-head IsLetter d w h) in
     let rest = turned-counts-n w e (All-tail IsLetter d w h) in
-    let places = at_places-cons d w in
+    let places = places-cons d w in
     rw (places.0, places.1, count_of-cons 1 d (at_even_places w))
     (omega (arith, ints, here, rest, oriented-not (is_turned_over w) e.n))
 
@@ -124,7 +111,7 @@ All-at_places : (w : List ℕ) → All IsLetter w → All IsLetter (at_odd_place
 All-at_places [] h = (h, h)
 All-at_places (d ∷ w) h =
     let rest = All-at_places w (All-tail IsLetter d w h) in
-    let places = at_places-cons d w in
+    let places = places-cons d w in
     rw (places.0, places.1) (All-cons IsLetter d (at_even_places w) (All-head IsLetter d w h) rest.1, rest.0)
 
 -- a word of even length has as many odd places as even ones
@@ -132,7 +119,7 @@ length-at_places : (w : List ℕ) → length (at_odd_places w) ≡ length (at_ev
 length-at_places [] = refl
 length-at_places (d ∷ w) =
     let rest = length-at_places w in
-    let places = at_places-cons d w in
+    let places = places-cons d w in
     rw (places.0, places.1) (omega (arith, rest))
 
 -- a word of even length does not turn its triangle over

@@ -64,7 +64,7 @@ new-requires g c =
     let ceiling = subst (λ z. IsCeiling c.div-2.result (z *ℤ c.t.inside.num) c.t.inside.den) c.PI_HI.ensures (simp to_z-of_z at c.div-2.ensures) in
     let ends : Ends = record { lo = c.div.result; hi = c.div-2.result } in
     let constants : Ends = record { lo = g.S.Scale.PI_LO; hi = g.S.Scale.PI_HI } in
-    let angle = angle_lem g.S.Scale.BITS constants ends c.t.inside.num c.t.inside.den g.S.Scale.bits_in_range.0 g.S.Scale.pi_between g.S.Scale.one_unit c.t.invariant.0 c.t.invariant.1 c.t.invariant.2.quarter floor ceiling in
+    let angle = angle_lem g.S.Scale.BITS constants ends c.t.inside.num c.t.inside.den g.S.Scale.pi_between g.S.Scale.one_unit c.t.invariant.0 c.t.invariant.1 c.t.invariant.2.quarter floor ceiling in
     let units : 2 ^ g.S.Scale.BITS ≤ 2 ^ 60 = pow_mono g.S.Scale.bits_in_range.1 in
     let interval : IsInterval ends = record { in_order = angle.0.in_order; in_range = narrow_within ends (2 * 2 ^ g.S.Scale.BITS) 2 (2 ^ 100) angle.0 (omega arith) } in
     simp to_z-of_z interval
@@ -86,7 +86,7 @@ returns-clause-encloses g c =
     let ceiling = subst (λ z. IsCeiling c.div-2.result (z *ℤ c.t.inside.num) c.t.inside.den) c.PI_HI.ensures (simp to_z-of_z at c.div-2.ensures) in
     let ends : Ends = record { lo = c.div.result; hi = c.div-2.result } in
     let constants : Ends = record { lo = g.S.Scale.PI_LO; hi = g.S.Scale.PI_HI } in
-    let angle = angle_lem g.S.Scale.BITS constants ends c.t.inside.num c.t.inside.den g.S.Scale.bits_in_range.0 g.S.Scale.pi_between g.S.Scale.one_unit c.t.invariant.0 c.t.invariant.1 c.t.invariant.2.quarter floor ceiling in
+    let angle = angle_lem g.S.Scale.BITS constants ends c.t.inside.num c.t.inside.den g.S.Scale.pi_between g.S.Scale.one_unit c.t.invariant.0 c.t.invariant.1 c.t.invariant.2.quarter floor ceiling in
     let is : c.new.result ≡ ends = simp to_z-of_z at c.new.ensures in
     subst₂ (λ (x : Ends) (t : ReferenceAngle). FromSomeOn (λ n. Encloses g.S.Scale.BITS x (pi_sum n *ℚ value t))) (sym is) c.t.view_is angle.1
 
@@ -107,6 +107,6 @@ returns-clause-narrow g c =
     let ceiling = subst (λ z. IsCeiling c.div-2.result (z *ℤ c.t.inside.num) c.t.inside.den) c.PI_HI.ensures (simp to_z-of_z at c.div-2.ensures) in
     let ends : Ends = record { lo = c.div.result; hi = c.div-2.result } in
     let constants : Ends = record { lo = g.S.Scale.PI_LO; hi = g.S.Scale.PI_HI } in
-    let angle = angle_lem g.S.Scale.BITS constants ends c.t.inside.num c.t.inside.den g.S.Scale.bits_in_range.0 g.S.Scale.pi_between g.S.Scale.one_unit c.t.invariant.0 c.t.invariant.1 c.t.invariant.2.quarter floor ceiling in
+    let angle = angle_lem g.S.Scale.BITS constants ends c.t.inside.num c.t.inside.den g.S.Scale.pi_between g.S.Scale.one_unit c.t.invariant.0 c.t.invariant.1 c.t.invariant.2.quarter floor ceiling in
     let is : c.new.result ≡ ends = simp to_z-of_z at c.new.ensures in
     subst (IsNarrow (2 * 2 ^ g.S.Scale.BITS) 2) (sym is) angle.0

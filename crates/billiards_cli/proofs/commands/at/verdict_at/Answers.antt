@@ -2,8 +2,8 @@ use Rattle.std.proofs.Common.{sym, subst, subst₂, arith}
 use Rattle.rat_core.specs.Fraction.{whole, ◌+ℚ◌, ◌<ℚ◌}
 use Rattle.rat_core.specs.Written.{Written, value}
 use Rattle.rat_core.proofs.Order.{over_positive}
+use Rattle.rat_core.proofs.Quotients.{sum_below_one}
 use Rattle.gradient_bounds.specs.Corridor.{HasCorridor}
-use Rattle.billiards_cli.proofs.Triangles.{sum_below_one}
 use Rattle.billiards_cli.proofs.commands.at.verdict_at.Goals as goal
 
 pub test_point-requires-clause-first : goal.test_point-requires-clause-first

@@ -1,36 +1,30 @@
-use Rattle.std.proofs.Common.{◌≡◌, Ok, ap, ◌∙◌}
-use Rattle.std.proofs.lemmas.Result.{MatchResult-at_ok}
-use Rattle.mcb_ends.specs.Lines.{next_of}
-use Rattle.mcb_ends.specs.Reader.{HandsOut, IsUnchanged}
-use Rattle.mcb_ends.specs.declared.failed.Failed.{Failed}
-use Rattle.mcb_ends.specs.declared.line.Line.{Line}
-use Rattle.mcb_ends.specs.declared.line.Line.TheVariants.{Text, TooLong}
-use Rattle.billiards_cli.proofs.Judging.{judged_too_long, judged_no_word, judged_if_ok}
+use Rattle.std.proofs.lemmas.Result.{err_from_is_err_and}
+use Rattle.covering_file.specs.Input.{IsNew}
+use Rattle.billiards_cli.proofs.Judging.{whole, first_refused, second_refused}
 use Rattle.billiards_cli.proofs.commands.word.judge.Goals as goal
 
-pub returns-in-Ok-clause-right : goal.returns-in-Ok-clause-right
-returns-in-Ok-clause-right g c =
+pub returns-in_err-word-clause-refused : goal.returns-in_err-word-clause-refused
+returns-in_err-word-clause-refused g c =
     let left = g.S.Source.left in
-    let old = c.new-lines.result in
-    let new = c.next.follows.lender-at-none in
-    let was : c.next.result ≡ Ok (Text c.in-Text.text) = c.in_ok-text.was ∙ ap (λ (line : Line). Ok line) c.in-Text.is in
-    let hands = MatchResult-at_ok (λ (line : Line). HandsOut old new (left c.args.src.now) (left c.next.new.src) (next_of line)) (λ (_ : Failed). IsUnchanged old new (left c.args.src.now) (left c.next.new.src)) (Text c.in-Text.text) was c.next.follows.holds-at-none in
-    judged_if_ok old new (left c.args.src.now) (left c.next.new.src) c.in-Text.text.now c.in-Ok.word c.judge_rest.result c.new-lines.ensures.held c.new-lines.ensures.done hands c.in-Ok.ensures c.judge_rest.ensures.right
+    let new = c.new-lines.ensures in
+    let fresh : IsNew c.new-lines.result = record { held = new.held; done = new.done; number = new.number } in
+    let p = err_from_is_err_and c.from_residual.result c.from_residual.ensures.1 in
+    rw (p.1, p.2) (first_refused c.new-lines.result c.take.new.lines (left c.args.src.now) (left c.take.new.src) c.in_err-word.field-0.0 fresh c.in_err-word.ensures.due c.in_err-word.ensures.no_memory)
 
-pub returns-in-Err-clause-right : goal.returns-in-Err-clause-right
-returns-in-Err-clause-right g c =
+pub returns-in_err-end_of_input-clause-refused : goal.returns-in_err-end_of_input-clause-refused
+returns-in_err-end_of_input-clause-refused g c =
     let left = g.S.Source.left in
-    let old = c.new-lines.result in
-    let new = c.next.follows.lender-at-none in
-    let was : c.next.result ≡ Ok (Text c.in-Text.text) = c.in_ok-text.was ∙ ap (λ (line : Line). Ok line) c.in-Text.is in
-    let hands = MatchResult-at_ok (λ (line : Line). HandsOut old new (left c.args.src.now) (left c.next.new.src) (next_of line)) (λ (_ : Failed). IsUnchanged old new (left c.args.src.now) (left c.next.new.src)) (Text c.in-Text.text) was c.next.follows.holds-at-none in
-    judged_no_word old new (left c.args.src.now) (left c.next.new.src) c.in-Text.text.now c.in-Err.field-0 c.new-lines.ensures.held c.new-lines.ensures.done hands c.in-Err.ensures
+    let new = c.new-lines.ensures in
+    let fresh : IsNew c.new-lines.result = record { held = new.held; done = new.done; number = new.number } in
+    let p = err_from_is_err_and c.from_residual-in_err-end_of_input.result c.from_residual-in_err-end_of_input.ensures.1 in
+    let read = c.in_ok-word.ensures.due in
+    rw (p.1, p.2) (second_refused c.new-lines.result c.take.new.lines (left c.args.src.now) (left c.take.new.src) (left c.end_of_input.new.src) read.line c.in_ok-word.word c.in_err-end_of_input.field-0.0 fresh read.read read.taken c.in_err-end_of_input.ensures.ends c.in_err-end_of_input.ensures.no_memory)
 
-pub returns-in-TooLong-clause-right : goal.returns-in-TooLong-clause-right
-returns-in-TooLong-clause-right g c =
+pub returns-clause-whole : goal.returns-clause-whole
+returns-clause-whole g c =
     let left = g.S.Source.left in
-    let old = c.new-lines.result in
-    let new = c.next.follows.lender-at-none in
-    let was : c.next.result ≡ Ok TooLong = c.in_ok-text.was ∙ ap (λ (line : Line). Ok line) c.in-TooLong.is in
-    let hands = MatchResult-at_ok (λ (line : Line). HandsOut old new (left c.args.src.now) (left c.next.new.src) (next_of line)) (λ (_ : Failed). IsUnchanged old new (left c.args.src.now) (left c.next.new.src)) TooLong was c.next.follows.holds-at-none in
-    judged_too_long old new (left c.args.src.now) (left c.next.new.src) c.new-lines.ensures.held c.new-lines.ensures.done hands
+    let new = c.new-lines.ensures in
+    let fresh : IsNew c.new-lines.result = record { held = new.held; done = new.done; number = new.number } in
+    let read = c.in_ok-word.ensures.due in
+    let ends = c.in_ok-end_of_input.ensures.ends in
+    whole c.new-lines.result c.take.new.lines (left c.args.src.now) (left c.take.new.src) (left c.end_of_input.new.src) read.line c.in_ok-word.word fresh read.read read.taken ends.0 ends.1

@@ -1,7 +1,7 @@
 use Rattle.std.proofs.Common.{◌≡◌, ℕ, ◌+◌, ◌<◌, ◌≤◌, List, ◌∷◌, ◌++◌, length, take, refl, sym, ap, ◌∙◌, arith, false}
 use Rattle.mcb_ends.specs.Lines.{TooLong, CutShort, newline}
 use Rattle.mcb_ends.specs.Reader.{Reader}
-use Rattle.mcb_ends.proofs.Newlines.{one_found, none_found}
+use Rattle.mcb_ends.proofs.Newlines.{one_found, none_found, not_in_hand}
 use Rattle.mcb_ends.proofs.Reading.{Grown-kept, Grown-fills, Grown-end, ReadsOneBuffer-grown, Takes-too_long, Takes-cut_short, HandsOut-text, HandsOut-done}
 use Rattle.mcb_ends.proofs.line_reader.LineReader.advance.Goals as goal
 
@@ -69,12 +69,30 @@ returns-else-held-eq0-clause-ahead g c =
     let grown = Grown-fills c.args.self.now.held c.loop-len.self.held c.fill.new.self.held (left c.args.src.now) (left c.loop-len.src) (left c.fill.new.src) c.in_ok-fill.field-0 c.loop-len.invariant.grown c.in_ok-fill.ensures.bytes in
     ReadsOneBuffer-grown c.args.self.now c.fill.new.self.held (left c.args.src.now) (left c.fill.new.src) grown c.in_ok-fill.ensures.fits
 
+pub returns-in_err-fill-clause-in_hand : goal.returns-in_err-fill-clause-in_hand
+returns-in_err-fill-clause-in_hand g c =
+    let held = c.loop-len.self.held in
+    let none = none_found held c.held.result.now c.line_end.result c.held.ensures.held c.line_end.ensures c.in_default.is in
+    let short : length held ≤ 80 = omega (arith, ap length c.held-held.ensures.held) in
+    λ hand. absurd (not_in_hand c.args.self.now held (c.loop-len.invariant.in_hand hand).0 none short hand)
+
+pub returns-else-held-eq0-clause-in_hand : goal.returns-else-held-eq0-clause-in_hand
+returns-else-held-eq0-clause-in_hand g c =
+    let held = c.loop-len.self.held in
+    let none = none_found held c.held.result.now c.line_end.result c.held.ensures.held c.line_end.ensures c.in_default.is in
+    let short : length held ≤ 80 = omega (arith, ap length c.held-held.ensures.held) in
+    λ hand. absurd (not_in_hand c.args.self.now held (c.loop-len.invariant.in_hand hand).0 none short hand)
+
 pub loop-len-preserved : goal.loop-len-preserved
 loop-len-preserved g c =
     let s = g.S.Source in
+    let held = c.loop-len.self.held in
+    let none = none_found held c.held.result.now c.line_end.result c.held.ensures.held c.line_end.ensures c.in_default.is in
+    let short : length held ≤ 80 = omega (arith, ap length c.held-held.ensures.held) in
     record {
       reading = c.in_ok-fill.ensures.done ∙ c.loop-len.invariant.reading;
       number = c.in_ok-fill.ensures.number ∙ c.loop-len.invariant.number;
       grown = Grown-fills c.args.self.now.held c.loop-len.self.held c.fill.new.self.held (s.left c.args.src.now) (s.left c.loop-len.src) (s.left c.fill.new.src) c.in_ok-fill.field-0 c.loop-len.invariant.grown c.in_ok-fill.ensures.bytes;
       faults = c.in_ok-fill.ensures.cause.kept ∙ c.loop-len.invariant.faults;
+      in_hand = λ hand. absurd (not_in_hand c.args.self.now held (c.loop-len.invariant.in_hand hand).0 none short hand);
     }

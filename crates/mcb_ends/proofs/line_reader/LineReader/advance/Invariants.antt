@@ -1,4 +1,5 @@
 use Rattle.std.proofs.Common.{◌≡◌, ◌-◌, false, length}
+use Rattle.mcb_ends.specs.Reader.{IsInHand}
 use Rattle.mcb_ends.proofs.Reading.{Grown}
 use Rattle.mcb_ends.proofs.line_reader.LineReader.advance.Given as goal
 
@@ -11,6 +12,7 @@ invariant-loop-len g l =
       number : l.self.number ≡ l.fn.self.number;
       grown : Grown l.fn.self.held l.self.held (s.left l.fn.src) (s.left l.src);
       faults : s.faults l.src ≡ s.faults l.fn.src;
+      in_hand : IsInHand l.fn.self → (l.self.held ≡ l.fn.self.held) × (l.src ≡ l.fn.src);
     }
 
 abbrev pub decreases-loop-len : goal.decreases-loop-len
