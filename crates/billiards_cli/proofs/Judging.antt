@@ -1,5 +1,5 @@
 -- What the one line of the input is taken as, and what stands behind it, decide what the input of `word` is.
-use Rattle.std.proofs.Common.{◌≡◌, ◌≢◌, ℕ, List, [], ◌∷◌, ◌++◌, Option, Some, None, Err, refl, subst, inl, inr, arith}
+use Rattle.std.proofs.Common.{◌≡◌, ◌≢◌, ℕ, List, [], ◌∷◌, ◌++◌, Option, Err, refl, subst, inl, inr, arith}
 use Rattle.std.specs.Io.KnownBytes.{IsAtEnd}
 use Rattle.mcb_ends.specs.Lines.{Text, IsNext}
 use Rattle.mcb_ends.specs.Reader.{Reader, bytes_before}
@@ -57,7 +57,3 @@ second_refused old mid a b c line w (Line number why) fresh spells taken more ot
     (found.0, found.1, second_offends found.0 line more.bytes number why (omega (arith, more.due, taken.number, fresh.number)) more.reason found.2 (w, spells) more.some)
 second_refused old mid a b c line w Read fresh spells taken more other = tt
 second_refused old mid a b c line w Memory fresh spells taken more other = other refl
-
-pub some_rest : (after : Option (List ℕ)) → (rest : List ℕ) × MayBe after rest
-some_rest None = ([], tt)
-some_rest (Some rest) = (rest, refl)

@@ -3,6 +3,8 @@ use Rattle.std.proofs.Common.{◌≡◌, ℕ, List, Option, refl}
 use Rattle.std.specs.Io.KnownBytes.{Appends}
 use Rattle.covering_file.specs.declared.reason.Reason.{Reason}
 use Rattle.covering_file.specs.declared.reason.Reason.TheVariants.{NotApart, NotShown, Uncovered}
+use Rattle.covering_file.specs.declared.file_kind.FileKind.TheVariants.{Cover}
+use Rattle.covering_file.specs.Faults.{BeginsHeader}
 use Rattle.covering_file.specs.Verdicts.{IsRefused}
 use Rattle.cover_checker.specs.Verdicts.{IsRightOf}
 use Rattle.cover_checker.specs.declared.verdict.Verdict.TheVariants.{Refused}
@@ -11,12 +13,11 @@ use Rattle.billiards_cli.specs.Requests.{Check}
 use Rattle.billiards_cli.specs.Services.{Serves}
 use Rattle.billiards_cli.specs.Texts.{refused_text}
 use Rattle.billiards_cli.specs.declared.status.Status.TheVariants as status
-use Rattle.billiards_cli.proofs.Judging.{some_rest}
 
-pub check_wants_memory : (left left' : Option (List ℕ)) (source source' : ℕ) (written : Option (List ℕ)) (sink : ℕ) → source' ≡ source → Serves Check left left' source source' written written sink sink status.OutOfMemory
-check_wants_memory left left' source source' written sink stood =
-    let bytes = some_rest left in
-    record { text = ((bytes.0, bytes.1, refl), refl); counts = (stood, refl); end = tt }
+-- memory was wanting, behind the first line of a file
+pub check_wants_memory : (left left' : Option (List ℕ)) (source source' : ℕ) (written : Option (List ℕ)) (sink : ℕ) → BeginsHeader Cover left → source' ≡ source → Serves Check left left' source source' written written sink sink status.OutOfMemory
+check_wants_memory left left' source source' written sink begins stood =
+    record { text = ((begins.0, begins.1, (begins.2, refl)), refl); counts = (stood, refl); end = tt }
 
 -- a refusal's text goes with its status
 pub refusal_answer : (input : List ℕ) (line : ℕ) (why : Reason) → IsRefused greatest_tree line why input → IsCheckAnswer input (refusal_status why) (refused_text line why)

@@ -14,8 +14,11 @@ use Rattle.billiards_cli.specs.WordInput.{IsWordLine, Offends}
 use Rattle.covering_file.specs.declared.reason.Reason.{Reason}
 use Rattle.covering_file.specs.declared.reason.Reason.TheVariants as reason
 use Rattle.covering_file.specs.declared.reason.Reason.TheVariants.{NotAWord, UnstableWord}
+use Rattle.covering_file.specs.declared.file_kind.FileKind.TheVariants.{Cover}
+use Rattle.covering_file.specs.Header.{first_line}
 use Rattle.covering_file.specs.HeaderOffence.{SpellsWord}
 use Rattle.covering_file.specs.Input.{MayBe}
+use Rattle.covering_file.specs.Text.{BeginsWith}
 use Rattle.covering_file.specs.Verdicts.{IsAccepted, IsRefused}
 use Rattle.billiards_cli.specs.declared.status.Status.{Status}
 use Rattle.billiards_cli.specs.declared.status.Status.TheVariants.{Done, NotShown, Malformed, OutOfMemory}
@@ -54,12 +57,12 @@ refusal_status reason.NotShown = NotShown
 refusal_status reason.Uncovered = NotShown
 refusal_status reason = Malformed
 
--- `check` is done where the input is accepted. Else it names the first line that can be refused, and its least reason. Where memory is wanting it writes nothing.
+-- `check` is done where the input is accepted. Else it names the first line that can be refused, and its least reason. Memory is wanting only behind the first line of a file, and then it writes nothing.
 abbrev pub IsCheckAnswer : List ℕ → Status → List ℕ → Type 0
 IsCheckAnswer input Done text = (nodes words : ℕ) × IsAccepted greatest_tree nodes words input × (text ≡ accepted_text nodes words)
 IsCheckAnswer input NotShown text = (line : ℕ) × (reason : Reason) × IsRefused greatest_tree line reason input × (refusal_status reason ≡ NotShown) × (text ≡ refused_text line reason)
 IsCheckAnswer input Malformed text = (line : ℕ) × (reason : Reason) × IsRefused greatest_tree line reason input × (refusal_status reason ≡ Malformed) × (text ≡ refused_text line reason)
-IsCheckAnswer input OutOfMemory text = text ≡ []
+IsCheckAnswer input OutOfMemory text = BeginsWith input (first_line Cover) × (text ≡ [])
 IsCheckAnswer input status text = ⊥
 
 -- the status and the text are a right answer to the request on this input

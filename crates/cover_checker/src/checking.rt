@@ -1,5 +1,6 @@
-ghost use Rattle.std.specs.Prelude.{◌≡◌, ◌≤◌, ℕ, List, Ok, Some, IfOk, IfErr};
-ghost use Rattle.covering_file.specs.Faults.{IsRightFault, StopsThere, HasHeadCause};
+ghost use Rattle.std.specs.Prelude.{◌≡◌, ◌≤◌, ℕ, List, Some, IfOk, IfErr, IsErrOf};
+ghost use Rattle.covering_file.specs.declared.file_kind.FileKind.TheVariants.{Cover};
+ghost use Rattle.covering_file.specs.Faults.{IsRightFault, StopsThere, HasHeadCause, BeginsHeader, WantsMemory};
 ghost use Rattle.covering_file.specs.FileOffence.{file_grammar};
 ghost use Rattle.covering_file.specs.Verdicts.{IsSureFile};
 ghost use Rattle.cover_checker.specs.Verdicts.{IsRightOf, Covers, StopsAt, HasCheckCause, IsAcceptance, IsAcceptedOf};
@@ -21,6 +22,9 @@ pub fn check<S: Source>(alloc: Global, limit: u32, src: &mut S) -> Result<Verdic
     ensures stops { IfOk result (StopsAt (S.left src.old) (S.left src.new)) }
     ensures cause { HasCheckCause (S.faults src.old) (S.faults src.new) result }
 
+    // Memory is wanted only behind the first line.
+    ensures wanting { IsErrOf result CheckFault.Memory → BeginsHeader Cover (S.left src.old) }
+
     // A file whose tree is sure is not refused.
     ensures complete { (bytes : List ℕ) → S.left src.old ≡ Some bytes → IsSureFile limit bytes → IfOk result IsAcceptance }
 {
@@ -38,6 +42,7 @@ fn judge<S: Source>(alloc: Global, limit: u32, src: &mut S) -> Result<(u32, u32)
     ensures accepted { IfOk result (λ counts. IsAcceptedOf limit (S.left src.old) (S.left src.new) counts.0 counts.1) }
     ensures refused { IfErr result (IsRightFault (file_grammar limit) (S.left src.old)) }
     ensures stops { IfErr result (StopsThere (S.left src.old) (S.left src.new)) }
+    ensures wanting { IfErr result (WantsMemory Cover (S.left src.old)) }
     ensures cause { HasHeadCause (S.faults src.old) (S.faults src.new) result }
 {
     let mut lines = LineReader::new();

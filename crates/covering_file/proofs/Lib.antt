@@ -8,6 +8,7 @@ pub mod TwoFields
 pub mod NumberLines
 pub mod FormReasons
 pub mod Parts
+pub mod Wanting
 pub mod Pushed
 pub mod WordLines
 pub mod LastCorner

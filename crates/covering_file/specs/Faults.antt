@@ -8,9 +8,11 @@ use Rattle.covering_file.specs.declared.fault.HeaderFault.{HeaderFault}
 use Rattle.covering_file.specs.declared.fault.HeaderFault.TheVariants.{Words, Unstable, Depth}
 use Rattle.covering_file.specs.declared.fault.HeadFault.{HeadFault}
 use Rattle.covering_file.specs.declared.fault.HeadFault.TheVariants.{Line, Read, Memory}
-use Rattle.covering_file.specs.Header.{IsWordCount, IsDepth}
+use Rattle.covering_file.specs.declared.file_kind.FileKind.{FileKind}
+use Rattle.covering_file.specs.Header.{IsWordCount, IsDepth, first_line}
 use Rattle.covering_file.specs.Input.{MayBe, StopsAtLine}
 use Rattle.covering_file.specs.Offence.{Grammar, IsFirstOffence}
+use Rattle.covering_file.specs.Text.{BeginsWith}
 
 -- the listed word of number i, counted from 1
 abbrev pub word_at : List (List ℕ) → ℕ → List ℕ
@@ -52,3 +54,13 @@ HasHeadCause before now (Ok value) = now ≡ before
 HasHeadCause before now (Err (Line line reason)) = now ≡ before
 HasHeadCause before now (Err Read) = Rose before now
 HasHeadCause before now (Err Memory) = now ≡ before
+
+-- The input begins with the first line of a header. Nothing before it takes memory.
+abbrev pub BeginsHeader : FileKind → Option (List ℕ) → Type 0
+BeginsHeader kind input = (bytes : List ℕ) × MayBe input bytes × BeginsWith bytes (first_line kind)
+
+-- Memory is wanted only where it does.
+abbrev pub WantsMemory : FileKind → Option (List ℕ) → HeadFault → Type 0
+WantsMemory kind input (Line line reason) = ⊤
+WantsMemory kind input Read = ⊤
+WantsMemory kind input Memory = BeginsHeader kind input

@@ -1,6 +1,6 @@
 ghost use Rattle.std.specs.Prelude.{◌≡◌, [], IfOk, IfErr};
 ghost use Rattle.mcb_ends.specs.Reader.{bytes_before};
-ghost use Rattle.covering_file.specs.Faults.{IsRightFault, StopsThere, HasHeadCause};
+ghost use Rattle.covering_file.specs.Faults.{IsRightFault, StopsThere, HasHeadCause, WantsMemory};
 ghost use Rattle.covering_file.specs.Header.{IsHeading, header_lines};
 ghost use Rattle.covering_file.specs.Header as header;
 ghost use Rattle.covering_file.specs.HeaderOffence.{header_grammar};
@@ -18,7 +18,7 @@ use std::alloc::Global;
 /// Reads a header, from the first line to the depth. What stands behind it is left to the reader.
 ///
 /// `Line` names the first line that offends, with its least reason; at most 4,096 bytes behind the lines before it were then read.
-/// `Read` comes where the source failed, and `Memory` where there was no memory.
+/// `Read` comes where the source failed, and `Memory` where there was no memory, behind the first line.
 pub fn read_header<S: Source>(
     alloc: Global,
     kind: FileKind,
@@ -30,6 +30,7 @@ pub fn read_header<S: Source>(
     ensures is_heading { IfOk result IsHeading }
     ensures refused { IfErr result (IsRightFault (header_grammar kind) (bytes_before lines.old (S.left src.old))) }
     ensures stops { IfErr result (StopsThere (S.left src.old) (S.left src.new)) }
+    ensures wanting { IfErr result (WantsMemory kind (bytes_before lines.old (S.left src.old))) }
     ensures cause { HasHeadCause (S.faults src.old) (S.faults src.new) result }
 {
     take_header(alloc, kind, lines, src)
@@ -46,6 +47,7 @@ pub(crate) fn take_header<S: Source>(
     ensures taken { IfOk result (λ h. TakesLines (header_lines kind h) lines.old lines.new (S.left src.old) (S.left src.new)) }
     ensures is_heading { IfOk result IsHeading }
     ensures refused { IfErr result (FailsBehind (header_grammar kind) [] lines.old (S.left src.old) (S.left src.new)) }
+    ensures wanting { IfErr result (WantsMemory kind (bytes_before lines.old (S.left src.old))) }
     ensures cause { HasHeadCause (S.faults src.old) (S.faults src.new) result }
 {
     take(

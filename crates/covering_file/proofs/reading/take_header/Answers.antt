@@ -1,12 +1,14 @@
-use Rattle.std.proofs.Common.{◌≡◌, ℕ, List, length, codes, Err, arith, subst}
+use Rattle.std.proofs.Common.{◌≡◌, ℕ, List, [], length, codes, Err, arith, subst}
 use Rattle.std.proofs.lemmas.Result.{err_from_is_err_and, IfOk-at_ok}
+use Rattle.mcb_ends.specs.Reader.{bytes_before}
 use Rattle.covering_file.specs.declared.reason.Reason.TheVariants.{OtherLine}
 use Rattle.covering_file.specs.Forms.{ReadsWhole, ReadsNumber}
-use Rattle.covering_file.specs.Header.{Heading}
+use Rattle.covering_file.specs.Header.{Heading, first_line}
 use Rattle.covering_file.specs.HeaderDue.{DueFirst, DueWords, DueDepth, lines_before}
 use Rattle.covering_file.proofs.FormReasons.{first_refused, number_refused}
 use Rattle.covering_file.proofs.HeaderParts.{to_outline, to_words, to_depth, outline_fails, words_fail, depth_fails}
-use Rattle.covering_file.proofs.Parts.{due_fails}
+use Rattle.covering_file.proofs.Parts.{takes_as, due_fails}
+use Rattle.covering_file.proofs.Wanting.{begins_header, wants_if_err, wants_none}
 use Rattle.covering_file.proofs.reading.take_header.Goals as goal
 
 pub returns-in_err-take-clause-refused : goal.returns-in_err-take-clause-refused
@@ -80,3 +82,38 @@ returns-clause-taken g c =
     let depth = c.in_ok-depth.depth in
     let kept : c.unwrap.result ≡ record { outline = o; words = ws; depth = depth } = IfOk-at_ok (λ (h : Heading). h ≡ record { outline = o; words = ws; depth = depth }) c.unwrap.ensures c.new.ensures.kept in
     to_depth kind c.unwrap.result o ws depth read.line old c.read_words.new.lines c.take-2.new.lines (left c.args.src.now) (left c.read_words.new.src) (left c.take-2.new.src) kept before' read.read.2 read.taken
+
+pub returns-in_err-take-clause-wanting : goal.returns-in_err-take-clause-wanting
+returns-in_err-take-clause-wanting g c =
+    let p = err_from_is_err_and c.from_residual.result c.from_residual.ensures.1 in
+    rw (p.1, p.2) (wants_none c.args.kind (bytes_before c.args.lines.now (g.S.Source.left c.args.src.now)) c.in_err-take.field-0.0 c.in_err-take.ensures.no_memory)
+
+pub returns-in_err-polygon-clause-wanting : goal.returns-in_err-polygon-clause-wanting
+returns-in_err-polygon-clause-wanting g c =
+    let left = g.S.Source.left in
+    let kind = c.args.kind in
+    let old = c.args.lines.now in
+    let due = c.in_ok-take.ensures.due in
+    let first = subst (λ (text : List ℕ). due.line ≡ text) c.first_line.ensures due.read in
+    let taken = takes_as due.line (first_line kind) old c.take.new.lines (left c.args.src.now) (left c.take.new.src) first due.taken in
+    wants_if_err kind (bytes_before old (left c.args.src.now)) c.from_residual-in_err-polygon.result (begins_header kind [] old c.take.new.lines (left c.args.src.now) (left c.take.new.src) taken)
+
+pub returns-in_err-words-clause-wanting : goal.returns-in_err-words-clause-wanting
+returns-in_err-words-clause-wanting g c =
+    let left = g.S.Source.left in
+    let kind = c.args.kind in
+    let old = c.args.lines.now in
+    let due = c.in_ok-take.ensures.due in
+    let first = subst (λ (text : List ℕ). due.line ≡ text) c.first_line.ensures due.read in
+    let taken = takes_as due.line (first_line kind) old c.take.new.lines (left c.args.src.now) (left c.take.new.src) first due.taken in
+    wants_if_err kind (bytes_before old (left c.args.src.now)) c.from_residual-in_err-words.result (begins_header kind [] old c.take.new.lines (left c.args.src.now) (left c.take.new.src) taken)
+
+pub returns-in_err-depth-clause-wanting : goal.returns-in_err-depth-clause-wanting
+returns-in_err-depth-clause-wanting g c =
+    let left = g.S.Source.left in
+    let kind = c.args.kind in
+    let old = c.args.lines.now in
+    let due = c.in_ok-take.ensures.due in
+    let first = subst (λ (text : List ℕ). due.line ≡ text) c.first_line.ensures due.read in
+    let taken = takes_as due.line (first_line kind) old c.take.new.lines (left c.args.src.now) (left c.take.new.src) first due.taken in
+    wants_if_err kind (bytes_before old (left c.args.src.now)) c.from_residual-in_err-depth.result (begins_header kind [] old c.take.new.lines (left c.args.src.now) (left c.take.new.src) taken)

@@ -1,4 +1,5 @@
-use Rattle.std.proofs.Common.{refl}
+use Rattle.std.proofs.Common.{Err, ap, refl}
+use Rattle.cover_checker.specs.declared.verdict.CheckFault.{CheckFault}
 use Rattle.billiards_cli.specs.Answers.{refusal_status}
 use Rattle.billiards_cli.specs.Requests.{Check}
 use Rattle.billiards_cli.specs.Texts.{accepted_text, refused_text}
@@ -11,7 +12,8 @@ pub returns-in-Err-Memory-clause-serves : goal.returns-in-Err-Memory-clause-serv
 returns-in-Err-Memory-clause-serves g c =
     let s = g.S.Source in
     let k = g.K.Sink in
-    check_wants_memory (s.left c.args.src.now) (s.left c.check.new.src) (s.faults c.args.src.now) (s.faults c.check.new.src) (k.written c.args.out.now) (k.faults c.args.out.now) (rw c.in-Err-Memory.field-0-is at c.in-Err-Memory.ensures.cause)
+    check_wants_memory (s.left c.args.src.now) (s.left c.check.new.src) (s.faults c.args.src.now) (s.faults c.check.new.src) (k.written c.args.out.now) (k.faults c.args.out.now)
+    (c.in-Err-Memory.ensures.wanting (ap (λ (fault : CheckFault). Err fault) c.in-Err-Memory.field-0-is)) (rw c.in-Err-Memory.field-0-is at c.in-Err-Memory.ensures.cause)
 
 pub returns-in-Err-clause-serves : goal.returns-in-Err-clause-serves
 returns-in-Err-clause-serves g c =
