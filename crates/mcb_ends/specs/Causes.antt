@@ -1,5 +1,5 @@
 -- When a failure may be laid to the outside: by a count of faults, which never falls.
-use Rattle.std.specs.Prelude.{◌≡◌, ℕ, ◌+◌, ◌-◌, ◌^◌, ◌≤◌, min, OnOk, OnErr}
+use Rattle.std.specs.Prelude.{◌≡◌, ℕ, ◌+◌, ◌-◌, ◌^◌, ◌≤◌, Bool, min, Ok, Err, OnOk, OnErr, MatchBool}
 use Rattle.std.specs.declared.result.Result.{Result}
 
 -- one more, up to the last value of a u64, where a count stays
@@ -15,3 +15,8 @@ pub record HasCause {T E : Type 0} (before now : ℕ) (result : Result T E) : Ty
   pub later : before ≤ now
   pub failed : OnErr result (Rose before now)
   pub kept : OnOk result (now ≡ before)
+
+-- A call that may fail in several ways does so by the outside only where the count rose. With every other answer the count stands.
+abbrev pub HasCauseWhere : {T E : Type 0} → (E → Bool) → ℕ → ℕ → Result T E → Type 0
+HasCauseWhere is_outside before now (Ok value) = now ≡ before
+HasCauseWhere is_outside before now (Err fault) = MatchBool (is_outside fault) (Rose before now) (now ≡ before)
