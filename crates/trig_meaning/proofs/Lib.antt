@@ -3,6 +3,7 @@ pub mod FromSomeOnLaws
 pub mod Gradient
 pub mod Lipschitz
 pub mod Odd
+pub mod PiBetween
 pub mod PiSums
 pub mod Pieces
 pub mod SteepSums
