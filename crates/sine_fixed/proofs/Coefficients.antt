@@ -1,5 +1,5 @@
 -- The table of the coefficients: each entry is at most one unit below its coefficient, and they fall.
-use Rattle.std.proofs.Common.{ℕ, zero, suc, ◌+◌, ◌-◌, ◌*◌, ◌/◌, ◌^◌, ◌<◌, ◌≤◌, ◌≡◌, subst, arith, lit≤, mul-le-mul, slice_index_or}
+use Rattle.std.proofs.Common.{ℕ, zero, suc, ◌-◌, ◌*◌, ◌/◌, ◌^◌, ◌<◌, ◌≤◌, ◌≡◌, subst, arith, lit≤, mul-le-mul, slice_index_or}
 use Rattle.std.proofs.Math.Nat.{div-le_of_le-mul}
 use Rattle.rat_core.specs.Fraction.{◌÷◌, ◌+ℚ◌, ◌*ℚ◌, at_most}
 use Rattle.sine_fixed.specs.declared.series.TheConstants.{COEFFICIENTS}

@@ -4,7 +4,7 @@ use Rattle.std.proofs.Math.Nat.{div-mul-le_self}
 use Rattle.ring_solver.specs.Expression.{var, num, ◌⊞◌, ◌⊟◌, ◌⊠◌, opp}
 use Rattle.ring_solver.specs.Ordered.{le, times, same}
 use Rattle.ring_solver.proofs.Certificate.{certified}
-use Rattle.rat_core.specs.Fraction.{ℚ, ◌÷◌, whole, ◌+ℚ◌, ◌-ℚ◌, ◌*ℚ◌, neg_ℚ, ◌≤ℚ◌, abs}
+use Rattle.rat_core.specs.Fraction.{ℚ, ◌÷◌, whole, ◌+ℚ◌, ◌-ℚ◌, ◌*ℚ◌, ◌≤ℚ◌, abs}
 use Rattle.rat_core.proofs.Laws.{ℚ_ordered, over-mul, mul_nonneg, int-add, int-sub, int-mul}
 use Rattle.rat_core.proofs.Order.{whole_le, whole_nonneg, cancel_le, le_abs, neg_le_abs}
 use Rattle.directed_fixed.specs.Ends.{Encloses}
@@ -51,9 +51,14 @@ angle_near P n d pi positive below low high =
       high = cancel_le d positive (pi *ℚ (pos n ÷ d) *ℚ one) (whole q +ℚ whole 2)
           (certified ℚ_ordered ρ (var 1 ⊠ var 2 ⊠ var 0 ⊠ var 4) ((var 6 ⊞ num 2) ⊠ var 4)
           (same (var 1 ⊠ var 0) (var 2 ⊠ var 4) (var 3) ∷ times (var 3) (var 1 ⊠ var 0) (var 5 ⊞ num 1)
-          ∷ le (var 5 ⊠ var 3) (var 6 ⊠ var 4 ⊞ var 4) ∷ le (var 3) (var 4) ∷ []) refl
-          (over-mul (pos n) d positive, (whole_nonneg n, subst (λ t. pi *ℚ one ≤ℚ t) next high,
-          (product_high P n d positive, (whole_le n d below, tt)))));
+          ∷ le (var 5 ⊠ var 3) (var 6 ⊠ var 4 ⊞ var 4) ∷ le (var 3) (var 4) ∷ []) refl (
+            over-mul (pos n) d positive,
+            (
+              whole_nonneg n,
+              subst (λ t. pi *ℚ one ≤ℚ t) next high,
+              (product_high P n d positive, (whole_le n d below, tt)),
+            ),
+          ));
     }
 
 -- A quarter of the square of z, where a stands for z.
@@ -77,9 +82,24 @@ quarter_square_near a z w quarter nonneg small most near =
           (same (var 2 ⊠ var 0) (var 5) (num 4 ⊠ var 0) ∷ same (var 0 ⊠ var 0) (num 4 ⊠ var 2) (var 1 ⊠ var 1)
           ∷ times (var 1 ⊠ var 0) (var 1 ⊠ var 0) (var 3 ⊞ num 2) ∷ times (var 3) (var 1 ⊠ var 0) (var 3 ⊞ num 2)
           ∷ le (var 3 ⊠ var 3) (var 4 ⊠ var 5 ⊞ var 5) ∷ times (num 2) (var 3) (num 2 ⊠ var 0) ∷ times (num 2 ⊠ var 0) (var 1) (num 2)
-          ∷ same (num 2) (num 4 ⊠ var 0) (var 5) ∷ []) refl
-          (sym four_is, (quarter, (z_nonneg, near.high, (whole_nonneg a, near.high, (product_high a a (2 ^ 62) (lit< tt),
-          (whole_nonneg 2, at_most_two, (mul_nonneg (whole 2) one (whole_nonneg 2) one_nonneg, small, (four_is, tt)))))))));
+          ∷ same (num 2) (num 4 ⊠ var 0) (var 5) ∷ []) refl (
+            sym four_is,
+            (
+              quarter,
+              (
+                z_nonneg,
+                near.high,
+                (
+                  whole_nonneg a,
+                  near.high,
+                  (
+                    product_high a a (2 ^ 62) (lit< tt),
+                    (whole_nonneg 2, at_most_two, (mul_nonneg (whole 2) one (whole_nonneg 2) one_nonneg, small, (four_is, tt))),
+                  ),
+                ),
+              ),
+            ),
+          ));
     }
 
 -- ---- a step of the scheme, and the last product
@@ -129,9 +149,22 @@ product_near y p share own w v nonneg small near near' most =
           (cancel_le (2 ^ 60) one_positive (w *ℚ v *ℚ one) (whole r +ℚ (whole share +ℚ (whole own +ℚ whole 1)))
           (certified ℚ_ordered ρ (var 1 ⊠ var 2 ⊠ var 0 ⊠ var 0) ((var 5 ⊞ (var 6 ⊞ (var 7 ⊞ num 1))) ⊠ var 0)
           (times (var 1 ⊠ var 0) (var 2 ⊠ var 0) (var 4 ⊞ num 16) ∷ times (var 4) (var 1 ⊠ var 0) (var 3 ⊞ var 7)
-          ∷ times (var 0) (num 16 ⊠ var 1) (var 6) ∷ le (var 3 ⊠ var 4) (var 5 ⊠ var 0 ⊞ var 0) ∷ times (var 7) (var 4) (var 0) ∷ []) refl
-          (w_nonneg, near'.high, (whole_nonneg p, near.high, (one_nonneg, small, (product_high y p (2 ^ 60) one_positive,
-          (whole_nonneg own, whole_le p (2 ^ 60) most, tt)))))));
+          ∷ times (var 0) (num 16 ⊠ var 1) (var 6) ∷ le (var 3 ⊠ var 4) (var 5 ⊠ var 0 ⊞ var 0) ∷ times (var 7) (var 4) (var 0) ∷ []) refl (
+            w_nonneg,
+            near'.high,
+            (
+              whole_nonneg p,
+              near.high,
+              (
+                one_nonneg,
+                small,
+                (
+                  product_high y p (2 ^ 60) one_positive,
+                  (whole_nonneg own, whole_le p (2 ^ 60) most, tt),
+                ),
+              ),
+            ),
+          )));
     }
 
 -- ---- what is cut off, and the shift to a scale

@@ -41,7 +41,7 @@ sine_term_is z w quarter (suc j) =
     sine_term_next z j
     ∙ ap₂ (λ t s. t *ℚ (s *ℚ factor (suc j))) (sine_term_is z w quarter j) (sym quarter)
     ∙ ring₅ ℚ_ring (λ z p c w f. z ⊠ p ⊠ c ⊠ (num 4 ⊠ w ⊠ f)) (λ z p c w f. z ⊠ (w ⊠ p) ⊠ (c ⊠ (num 4 ⊠ f))) refl
-      z (power w j) (coefficient j) w (factor (suc j))
+    z (power w j) (coefficient j) w (factor (suc j))
 
 -- an alternating sum of such terms
 alternating_horner : (w a : ℚ) (f : ℕ → ℚ) (j n : ℕ) → ((i : ℕ) → f i ≡ a *ℚ power w i *ℚ coefficient (j + i)) → alternating f n ≡ a *ℚ horner w j n

@@ -1,11 +1,11 @@
 -- The negative of an interval.
-use Rattle.std.proofs.Common.{◌≡◌, refl, sym, subst, ◌∙◌, ℕ, ◌^◌, ◌≤◌, ℤ, pos, ◌+ℤ◌, ◌-ℤ◌, ◌≤ℤ◌, unsigned_abs, FitsSigned, [], ◌∷◌, arith}
+use Rattle.std.proofs.Common.{refl, sym, subst, ℕ, ◌^◌, ◌≤◌, ℤ, pos, ◌+ℤ◌, ◌-ℤ◌, ◌≤ℤ◌, unsigned_abs, FitsSigned, [], ◌∷◌, arith}
 use Rattle.std.proofs.lemmas.Int.{ints, fits_signed_from_abs}
 use Rattle.std.specs.Int.{w128}
 use Rattle.ring_solver.specs.Expression.{num, ◌⊟◌, ◌⊠◌, opp}
 use Rattle.ring_solver.specs.Ordered.{le}
 use Rattle.ring_solver.proofs.Certificate.{le₃}
-use Rattle.rat_core.specs.Fraction.{ℚ, ◌÷◌, whole, ◌-ℚ◌, ◌*ℚ◌, neg_ℚ, ◌≤ℚ◌}
+use Rattle.rat_core.specs.Fraction.{ℚ, ◌÷◌, whole, ◌*ℚ◌, neg_ℚ, ◌≤ℚ◌}
 use Rattle.rat_core.proofs.Laws.{ℚ_ordered, int-sub}
 use Rattle.directed_fixed.specs.Ends.{Ends, Encloses, IsWithin}
 

@@ -1,5 +1,5 @@
 -- A quarter of the square of an angle from 0 to 8/5, and the angle itself: how large they are.
-use Rattle.std.proofs.Common.{◌≡◌, refl, ap, ◌∙◌, ◌<◌, pos, [], ◌∷◌, arith, lit<}
+use Rattle.std.proofs.Common.{◌≡◌, refl, ap, ◌∙◌, pos, [], ◌∷◌, arith, lit<}
 use Rattle.std.proofs.lemmas.Int.{ints}
 use Rattle.ring_solver.specs.Expression.{num, ◌⊠◌}
 use Rattle.ring_solver.specs.Ordered.{times, same}

@@ -1,11 +1,9 @@
-use Rattle.std.proofs.Common.{◌≡◌, sym, subst, ap₂, ◌∙◌, ◌*◌, ◌/◌, ◌≤◌, pos, unsigned_abs, FitsSigned, arith}
-use Rattle.std.proofs.lemmas.Int.{ints, to_z-of_z}
-use Rattle.std.specs.Int.{w128}
+use Rattle.std.proofs.Common.{◌≡◌, sym, subst, ap₂, ◌∙◌, ◌*◌, ◌/◌, ◌≤◌, pos, unsigned_abs, arith}
+use Rattle.std.proofs.lemmas.Int.{to_z-of_z}
 use Rattle.rat_core.specs.Fraction.{◌÷◌, ◌*ℚ◌}
 use Rattle.trig_meaning.specs.PartialSums.{pi_sum}
-use Rattle.trig_meaning.specs.FromSomeOn.{FromSomeOn}
 use Rattle.trig_meaning.proofs.FromSomeOnLaws.{onward}
-use Rattle.pi_bounds.specs.PiBetween.{fine_between}
+use Rattle.trig_meaning.proofs.PiBetween.{pi_between_lem}
 use Rattle.sine_fixed.specs.ReferenceAngle.{ReferenceAngle, value}
 use Rattle.sine_fixed.specs.Near.{IsNear}
 use Rattle.sine_fixed.specs.declared.series.TheConstants.{PI}
@@ -26,7 +24,7 @@ returns-clause-near c =
     let below : num ≤ den = omega (arith, reference.quarter) in
     onward
     (λ n between.
-     subst (λ (t : ReferenceAngle). IsNear 0 2 c.quotient.result (pi_sum n *ℚ value t)) c.t.view_is
-     (subst (λ q. IsNear 0 2 q (pi_sum n *ℚ (pos num ÷ den))) (sym is)
-     (angle_near PI num den (pi_sum n) reference.positive below between.low between.high)))
-    fine_between
+    subst (λ (t : ReferenceAngle). IsNear 0 2 c.quotient.result (pi_sum n *ℚ value t)) c.t.view_is
+    (subst (λ q. IsNear 0 2 q (pi_sum n *ℚ (pos num ÷ den))) (sym is)
+    (angle_near PI num den (pi_sum n) reference.positive below between.low between.high)))
+    pi_between_lem.fine

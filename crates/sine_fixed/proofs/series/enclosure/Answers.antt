@@ -7,7 +7,8 @@ use Rattle.sine_fixed.proofs.Sizes.{shift_room, shifted_small, shifted_within, s
 use Rattle.sine_fixed.proofs.series.enclosure.Given.{Over}
 use Rattle.sine_fixed.proofs.series.enclosure.Goals as goal
 
-ends_are : (g : Over) (c : goal.After-new g) → (let b = c.args.number / 2 ^ (60 - g.S.Scale.BITS) in c.new.result ≡ record { lo = pos b -ℤ pos 27; hi = pos b +ℤ pos 31 })
+ends_are : (g : Over) (c : goal.After-new g) → (let b = c.args.number / 2 ^ (60 - g.S.Scale.BITS) in c.new.result
+    ≡ record { lo = pos b -ℤ pos 27; hi = pos b +ℤ pos 31 })
 ends_are g c =
     let bits = g.S.Scale.BITS in
     let b = c.args.number / 2 ^ (60 - bits) in

@@ -1,9 +1,6 @@
 use Rattle.std.proofs.Common.{subst₂, ◌*◌, ◌/◌, ◌^◌, sym, Fits}
 use Rattle.std.specs.Int.{w64}
 use Rattle.sine_fixed.proofs.Sizes.{product_fits}
-use Rattle.sine_fixed.proofs.Errors.{product_near}
-use Rattle.sine_fixed.proofs.Coefficients.{entry_near}
-use Rattle.sine_fixed.proofs.Horner.{sine_sum_horner, horner_next}
 use Rattle.sine_fixed.proofs.series.product.Goals as goal
 
 pub overflow_cast-result-2 : goal.overflow_cast-result-2

@@ -1,6 +1,5 @@
-use Rattle.std.proofs.Common.{◌≡◌, sym, subst, subst₂, ◌+◌, ◌-◌, ◌*◌, ◌/◌, ◌^◌, ◌<◌, ◌≤◌, le_refl, arith}
-use Rattle.rat_core.specs.Fraction.{ℚ, ◌÷◌, whole, ◌*ℚ◌, ◌≤ℚ◌}
-use Rattle.trig_meaning.specs.PartialSums.{sine_sum}
+use Rattle.std.proofs.Common.{◌≡◌, sym, subst, subst₂, ◌+◌, ◌-◌, ◌^◌, ◌<◌, ◌≤◌, le_refl, arith}
+use Rattle.rat_core.specs.Fraction.{◌*ℚ◌}
 use Rattle.sine_fixed.specs.Near.{IsNear}
 use Rattle.sine_fixed.proofs.Errors.{quarter_square_near, difference_near, product_near, widened}
 use Rattle.sine_fixed.proofs.QuarterSquare.{quarter_square, four_times, quarter_square_nonneg, quarter_square_small, at_most_two, sixteen_times}

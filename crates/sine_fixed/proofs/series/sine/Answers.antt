@@ -13,7 +13,7 @@ returns-clause-encloses g c =
     let sign : c.t.inside.negative ≡ c.args.t.negative = ap (λ (a : ReferenceAngle). a.negative) c.t.view_is in
     onward
     (λ n near.
-     let sum = sine_sum n (pi_sum n *ℚ value c.args.t) in
-     subst (λ b. Encloses g.S.Scale.BITS c.with_sign.result (signed_value b sum)) sign
-     (c.with_sign.ensures.encloses sum (c.enclosure.ensures.encloses sum near)))
+    let sum = sine_sum n (pi_sum n *ℚ value c.args.t) in
+    subst (λ b. Encloses g.S.Scale.BITS c.with_sign.result (signed_value b sum)) sign
+    (c.with_sign.ensures.encloses sum (c.enclosure.ensures.encloses sum near)))
     (sine_near c.angle.result c.series.result c.args.t reference c.angle.ensures.near c.series.ensures.near)
