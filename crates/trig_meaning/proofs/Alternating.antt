@@ -8,6 +8,7 @@ use Rattle.rat_core.specs.Fraction.{ℚ, whole, ◌+ℚ◌, ◌-ℚ◌, ◌*ℚ�
 use Rattle.rat_core.proofs.Laws.{ℚ_ring, ℚ_ordered, le_refl}
 use Rattle.rat_core.proofs.Order.{abs_le, abs-neg, whole_nonneg}
 use Rattle.trig_meaning.specs.PartialSums.{sum_to, sign}
+use Rattle.trig_meaning.proofs.Sums.{sum_to-first, sum_to-same, sum_to-neg}
 
 -- f 0 − (f 1 − (f 2 − .. f n))
 abbrev pub alternating : (ℕ → ℚ) → ℕ → ℚ
@@ -21,21 +22,6 @@ pub record IsFalling (f : ℕ → ℚ) : Type 0 where
 
 pub falling_tail : (f : ℕ → ℚ) → IsFalling f → IsFalling (λ j. f (suc j))
 falling_tail f h = record { nonneg = λ j. h.nonneg (suc j); falls = λ j. h.falls (suc j) }
-
--- a sum's first term apart
-sum_to-first : (f : ℕ → ℚ) (n : ℕ) → sum_to f (suc n) ≡ f 0 +ℚ sum_to (λ j. f (suc j)) n
-sum_to-first f zero = refl
-sum_to-first f (suc n) =
-    ap (λ t. t +ℚ f (suc (suc n))) (sum_to-first f n) ∙ ring₃ ℚ_ring (λ x y z. (x ⊞ y) ⊞ z) (λ x y z. x ⊞ (y ⊞ z)) refl (f 0) (sum_to (λ j. f (suc j)) n) (f (suc (suc n)))
-
--- sums of equal terms
-pub sum_to-same : (f g : ℕ → ℚ) → ((j : ℕ) → f j ≡ g j) → (n : ℕ) → sum_to f n ≡ sum_to g n
-sum_to-same f g h zero = h 0
-sum_to-same f g h (suc n) = ap₂ ◌+ℚ◌ (sum_to-same f g h n) (h (suc n))
-
-pub sum_to-neg : (f : ℕ → ℚ) (n : ℕ) → sum_to (λ j. neg_ℚ (f j)) n ≡ neg_ℚ (sum_to f n)
-sum_to-neg f zero = refl
-sum_to-neg f (suc n) = ap (λ t. t +ℚ neg_ℚ (f (suc n))) (sum_to-neg f n) ∙ ring₂ ℚ_ring (λ x y. opp x ⊞ opp y) (λ x y. opp (x ⊞ y)) refl (sum_to f n) (f (suc n))
 
 -- a cut series with signs is its alternating sum
 pub sum_alternating : (f : ℕ → ℚ) (n : ℕ) → sum_to (λ j. sign j *ℚ f j) n ≡ alternating f n

@@ -5,12 +5,18 @@ use Rattle.ring_solver.proofs.Solver.{ring₂, ring₃}
 use Rattle.rat_core.specs.Fraction.{ℚ, ◌÷◌, ◌*ℚ◌, neg_ℚ}
 use Rattle.rat_core.proofs.Laws.{ℚ_ring}
 use Rattle.trig_meaning.specs.PartialSums.{sign, power, factorial, sine_sum}
-use Rattle.trig_meaning.proofs.Alternating.{twice, sum_to-same, sum_to-neg}
+use Rattle.trig_meaning.proofs.Sums.{sum_to-same, sum_to-neg}
+use Rattle.trig_meaning.proofs.Alternating.{twice}
 
 -- an odd number, as `power` counts it down
 pub odd_is : (j : ℕ) → 2 * j + 1 ≡ suc (twice j)
 odd_is zero = refl
 odd_is (suc j) = let e : 2 * suc j + 1 ≡ suc (suc (2 * j + 1)) = omega arith in e ∙ ap (λ t. suc (suc t)) (odd_is j)
+
+-- and an even one
+pub even_is : (j : ℕ) → 2 * j ≡ twice j
+even_is zero = refl
+even_is (suc j) = let e : 2 * suc j ≡ suc (suc (2 * j)) = omega arith in e ∙ ap (λ t. suc (suc t)) (even_is j)
 
 power-neg_twice : (z : ℚ) (j : ℕ) → power (neg_ℚ z) (suc (twice j)) ≡ neg_ℚ (power z (suc (twice j)))
 power-neg_twice z zero = ring₂ ℚ_ring (λ z w. opp z ⊠ num 1) (λ z w. opp (z ⊠ num 1)) refl z z

@@ -10,14 +10,9 @@ use Rattle.rat_core.specs.Fraction.{ℚ, ◌÷◌, whole, ◌+ℚ◌, ◌-ℚ◌
 use Rattle.rat_core.proofs.Laws.{ℚ_ring, ℚ_ordered, int-mul, le_trans, mul_nonneg}
 use Rattle.rat_core.proofs.Order.{whole_le, whole_nonneg, over_nonneg, over_part, difference_nonneg}
 use Rattle.trig_meaning.specs.PartialSums.{sum_to, sign, power, factorial, sine_sum}
-use Rattle.trig_meaning.proofs.Alternating.{alternating, sum_to-same, sum_alternating, within_first}
+use Rattle.trig_meaning.proofs.Sums.{sum_to-same, sum_to-difference}
+use Rattle.trig_meaning.proofs.Alternating.{alternating, sum_alternating, within_first}
 use Rattle.trig_meaning.proofs.Tail.{sine_term, power_mono, factorial_positive}
-
-sum_to-difference : (f g : ℕ → ℚ) (n : ℕ) → sum_to f n -ℚ sum_to g n ≡ sum_to (λ j. f j -ℚ g j) n
-sum_to-difference f g zero = refl
-sum_to-difference f g (suc n) =
-    ring₄ ℚ_ring (λ x y z w. x ⊞ y ⊟ (z ⊞ w)) (λ x y z w. x ⊟ z ⊞ (y ⊟ w)) refl (sum_to f n) (f (suc n)) (sum_to g n) (g (suc n))
-    ∙ ap (λ t. t +ℚ (f (suc n) -ℚ g (suc n))) (sum_to-difference f g n)
 
 square_closed : whole 3 *ℚ ((pos 8 ÷ 5) *ℚ (pos 8 ÷ 5)) ≤ℚ whole 8
 unfolding at_most ◌*ℚ◌ ◌÷◌

@@ -1,5 +1,5 @@
 -- The sentences of the laws.
-use Rattle.std.specs.Prelude.{◌≡◌, ℕ, ℤ, pos}
+use Rattle.std.specs.Prelude.{◌≡◌, ℕ, ◌^◌, ℤ, pos}
 use Rattle.rat_core.specs.Fraction.{ℚ, ◌÷◌, whole, ◌+ℚ◌, ◌-ℚ◌, ◌*ℚ◌, neg_ℚ, ◌≤ℚ◌, abs}
 use Rattle.exp_sums.specs.declared.direction.Dir.{Dir}
 use Rattle.exp_sums.specs.FormalPoint.{FormalPoint, monomial, ◌+ₚ◌}
@@ -39,3 +39,13 @@ pub record ValuesAddUp : Type 0 where
 -- the sine form of a point has the point's second coordinate as its value
 abbrev pub SineFormsAreSecondCoordinates : Type 0
 SineFormsAreSecondCoordinates = (n : ℕ) (p : FormalPoint) (x y : ℚ) → value_at n (sine_form p) x y ≡ second_coordinate n p x y
+
+-- lo·2^−bits ≤ pi ≤ hi·2^−bits, for the n-th approximation of pi
+pub record PiWithin (bits : ℕ) (lo hi : ℤ) (n : ℕ) : Type 0 where
+  pub low : lo ÷ 1 ≤ℚ pi_sum n *ℚ whole (2 ^ bits)
+  pub high : pi_sum n *ℚ whole (2 ^ bits) ≤ℚ hi ÷ 1
+
+-- from some n on, the approximations of pi lie between two neighbours of 60 bits, and between two of 40 bits
+pub record PiBetween : Type 0 where
+  pub fine : FromSomeOn (PiWithin 60 (pos 0x3243F6A8885A308D) (pos 0x3243F6A8885A308E))
+  pub coarse : FromSomeOn (PiWithin 40 (pos 0x3243F6A8885) (pos 0x3243F6A8886))
