@@ -1,4 +1,4 @@
--- Regions of the angle plane, a point or a box, and the functions that are clear or shut on one.
+-- Neighbourhoods in the angle plane, a point or a box, and the functions that are clear or shut on one.
 
 use Rattle.std.specs.Prelude.{ℕ, pos, ◌≤ℤ◌, unsigned_abs}
 use Rattle.rat_core.specs.Fraction.{ℚ, ◌÷◌, whole, neg_ℚ, ◌+ℚ◌, ◌*ℚ◌, ◌≤ℚ◌}
@@ -7,12 +7,12 @@ use Rattle.exp_sums.specs.Reach.{reach}
 use Rattle.trig_meaning.specs.FromSomeOn.{FromSomeOn}
 use Rattle.trig_meaning.specs.PartialSums.{pi_sum}
 use Rattle.trig_meaning.specs.Value.{value_at}
-use Rattle.gradient_bounds.specs.declared.region.Region.{Region}
+use Rattle.gradient_bounds.specs.declared.neighbourhood.Neighbourhood.{Neighbourhood}
 use Rattle.gradient_bounds.specs.Angles.{IsAngles, first_angle, second_angle}
 use Rattle.gradient_bounds.specs.Clear.{margin}
 
 -- the radius is 0 or one part of the centre's denominator
-pub record IsRegion (r : Region) : Type 0 where
+pub record IsNeighbourhood (r : Neighbourhood) : Type 0 where
   pub angles : IsAngles r.centre
   pub at_least : pos 0 ≤ℤ r.radius
   pub at_most : r.radius ≤ℤ pos 1
@@ -23,7 +23,7 @@ pub record Ball : Type 0 where
   pub y : ℚ
   pub radius : ℚ
 
-abbrev pub ball_of : Region → Ball
+abbrev pub ball_of : Neighbourhood → Ball
 ball_of r = record { x = first_angle r.centre; y = second_angle r.centre; radius = r.radius ÷ unsigned_abs r.centre.den }
 
 -- what a function has to reach at the centre: pi·reach·radius, and its margin

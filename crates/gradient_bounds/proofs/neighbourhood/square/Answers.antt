@@ -2,10 +2,10 @@ use Rattle.std.proofs.Common.{ap, ◌∙◌, pos, arith}
 use Rattle.std.proofs.lemmas.Int.{ints}
 use Rattle.rat_core.specs.Written.{Written}
 use Rattle.gradient_bounds.proofs.Turning.{box_angles_kept}
-use Rattle.gradient_bounds.proofs.region.square.Goals as goal
+use Rattle.gradient_bounds.proofs.neighbourhood.square.Goals as goal
 
-pub returns-clause-region : goal.returns-clause-region
-returns-clause-region c =
+pub returns-clause-neighbourhood : goal.returns-clause-neighbourhood
+returns-clause-neighbourhood c =
     let place = c.args.place in
     let box = c.centre-x.ensures.is_box in
     record {
