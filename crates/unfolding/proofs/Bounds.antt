@@ -21,8 +21,8 @@ use Rattle.exp_sums.proofs.Within.{IsWithin-monomial, IsWithin-zero_point, IsWit
 use Rattle.unfolding.specs.Triangle.{next_corner, corner_dir, mirrors, corner_of, centre_of}
 use Rattle.unfolding.specs.Signed.{sign_of, signed_point}
 use Rattle.unfolding.specs.declared.signed.Signed.{Signed}
-use Rattle.unfolding.specs.Walk.{turned, seen_of}
-use Rattle.unfolding.proofs.Turned.{turned-near-m, turned-near-n}
+use Rattle.unfolding.specs.Walk.{mirrored_dir, seen_of}
+use Rattle.unfolding.proofs.MirroredDirs.{mirrored_dir-near-m, mirrored_dir-near-n}
 use Rattle.unfolding.proofs.Seen.{corner_is_seen, centre-snoc}
 
 -- ---- how far directions reach
@@ -64,7 +64,7 @@ corner_dir_near c = by_tests (c == 1) (c == 2)
     by_tests false false = record { m = omega arith; n = omega arith }
 
 -- a corner as it is seen from the centre
-pub seen_near : (w : List ℕ) (k c : ℕ) → IsWord w → k ≤ length w → IsNear 65 (turned (take k w) (corner_dir c))
+pub seen_near : (w : List ℕ) (k c : ℕ) → IsWord w → k ≤ length w → IsNear 65 (mirrored_dir (take k w) (corner_dir c))
 seen_near w k c word below =
     let v = take k w in
     let letters = All-take IsLetter k w word.letters in
@@ -72,8 +72,8 @@ seen_near w k c word below =
     let short : length v ≤ 64 = omega (arith, length-take k w, word.even_length.at_most) in
     let near = corner_dir_near c in
     record {
-      m = omega (arith, near.m, short, sparse 2 v entries, turned-near-m v (corner_dir c) letters);
-      n = omega (arith, near.n, short, sparse 1 v entries, turned-near-n v (corner_dir c) letters);
+      m = omega (arith, near.m, short, sparse 2 v entries, mirrored_dir-near-m v (corner_dir c) letters);
+      n = omega (arith, near.n, short, sparse 1 v entries, mirrored_dir-near-n v (corner_dir c) letters);
     }
 
 -- ---- centres and corners
@@ -124,9 +124,9 @@ weight-apart w i j h k =
           let j_is : j ≡ i + (j - i) = omega (arith, below) in
           let moved = weight-moved w i (j - i) (omega (arith, k, below)) in
           let back : weight (centre_of w j -ₚ centre_of w i) ≤ 2 * (j - i) = subst (λ n. weight (centre_of w n -ₚ centre_of w i) ≤ 2 * (j - i)) (sym j_is) moved in
-          let turn : centre_of w i -ₚ centre_of w j ≡ negative (centre_of w j -ₚ centre_of w i) =
+          let swapped : centre_of w i -ₚ centre_of w j ≡ negative (centre_of w j -ₚ centre_of w i) =
           ring point_ring (centre_of w i ∷ centre_of w j ∷ []) (var 0 ⊟ var 1) (opp (var 1 ⊟ var 0)) refl in
-          rw turn (omega (arith, back, weight-negative (centre_of w j -ₚ centre_of w i)))
+          rw swapped (omega (arith, back, weight-negative (centre_of w j -ₚ centre_of w i)))
     ]
 
 pub weight-corners_apart : (w : List ℕ) (i j c e : ℕ) → i ≤ length w → j ≤ length w → weight (corner_of w i c -ₚ corner_of w j e) ≤ 2 * (i - j) + 2 * (j - i) + 2
@@ -159,7 +159,7 @@ weight-corner w k c h =
 
 -- the directions of centres and corners
 within-signed : (w : List ℕ) (k c : ℕ) → IsWord w → k ≤ length w → IsWithin 65 (signed_point (seen_of (take k w) c))
-within-signed w k c word h = IsWithin-monomial 65 _ (turned (take k w) (corner_dir c)) (seen_near w k c word h)
+within-signed w k c word h = IsWithin-monomial 65 _ (mirrored_dir (take k w) (corner_dir c)) (seen_near w k c word h)
 
 pub within-centre : (w : List ℕ) (k : ℕ) → IsWord w → k ≤ length w → IsWithin 65 (centre_of w k)
 within-centre w zero word h = IsWithin-zero_point 65

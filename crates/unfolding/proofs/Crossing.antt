@@ -6,9 +6,9 @@ use Rattle.std.specs.List.{All}
 use Rattle.exp_sums.specs.declared.direction.Dir.{Dir}
 use Rattle.exp_sums.specs.Limits.{IsNear}
 use Rattle.unfolding.specs.Triangle.{next_corner, corner_dir}
-use Rattle.unfolding.specs.Walk.{turned}
+use Rattle.unfolding.specs.Walk.{mirrored_dir}
 use Rattle.unfolding.specs.Kept.{dirs_of}
-use Rattle.unfolding.proofs.Turned.{same_dir, turned-snoc-m, turned-snoc-n}
+use Rattle.unfolding.proofs.MirroredDirs.{same_dir, mirrored_dir-snoc-m, mirrored_dir-snoc-n}
 
 -- x is where the mirror in the edge from p to q takes r
 pub record IsImage (p q r x : Dir) : Type 0 where
@@ -16,9 +16,9 @@ pub record IsImage (p q r x : Dir) : Type 0 where
   pub n : x.n ≡ p.n +ℤ q.n -ℤ r.n
 
 -- the image of a direction in edge d is the direction after one more letter d
-image_is : (w : List ℕ) (d : ℕ) (e x : Dir) → IsImage (turned w (corner_dir (next_corner d))) (turned w (corner_dir (next_corner (next_corner d)))) (turned w e) x → x ≡ turned (w ++ d ∷ []) e
+image_is : (w : List ℕ) (d : ℕ) (e x : Dir) → IsImage (mirrored_dir w (corner_dir (next_corner d))) (mirrored_dir w (corner_dir (next_corner (next_corner d)))) (mirrored_dir w e) x → x ≡ mirrored_dir (w ++ d ∷ []) e
 image_is w d e x h =
-    same_dir x (turned (w ++ d ∷ []) e) (omega (arith, ints, h.m, turned-snoc-m w d e)) (omega (arith, ints, h.n, turned-snoc-n w d e))
+    same_dir x (mirrored_dir (w ++ d ∷ []) e) (omega (arith, ints, h.m, mirrored_dir-snoc-m w d e)) (omega (arith, ints, h.n, mirrored_dir-snoc-n w d e))
 
 -- the ends of the edge change places
 image_of_start : (p q : Dir) → IsImage p q p q
