@@ -1,5 +1,6 @@
 -- How heavy centres and corners are, and how far their directions reach.
-use Rattle.std.proofs.Common.{◌≡◌, ◌≢◌, ℕ, zero, suc, ◌+◌, ◌*◌, ◌-◌, ◌%◌, ◌<◌, ◌≤◌, ◌==◌, Bool, true, false, List, [], ◌∷◌, length, take, get_or, pos, negsuc, if◌then◌else◌, refl, sym, ap, ap₂, subst, ◌∙◌, arith, length-take, add-zero, zero-add, inl, inr}
+use Rattle.std.proofs.Common.{◌≡◌, ◌≢◌, ℕ, zero, suc, ◌+◌, ◌*◌, ◌-◌, ◌%◌, ◌<◌, ◌≤◌, ◌==◌, Bool, true, false, List, [], ◌∷◌, length, take, get_or, pos}
+use Rattle.std.proofs.Common.{negsuc, if◌then◌else◌, refl, sym, ap, ap₂, subst, ◌∙◌, arith, length-take, add-zero, zero-add, inl, inr}
 use Rattle.std.proofs.Math.Seq.{take-suc}
 use Rattle.std.proofs.lemmas.Bool.{cases_lt}
 use Rattle.std.proofs.lemmas.Bool.Decides.{nat_tests}
@@ -58,7 +59,8 @@ entries_of_word w k h below i inside same =
 corner_dir_near : (c : ℕ) → IsNear 1 (corner_dir c)
 corner_dir_near c = by_tests (c == 1) (c == 2)
   where
-    by_tests : (a b : Bool) → IsNear 1 (if a then record { m = pos 1; n = pos 1 } else if b then record { m = negsuc 0; n = negsuc 0 } else record { m = pos 1; n = negsuc 0 })
+    by_tests : (a b : Bool) → IsNear 1 (if a then record { m = pos 1; n = pos 1 } else if b then record { m = negsuc 0; n = negsuc 0 } else record
+        { m = pos 1; n = negsuc 0 })
     by_tests true b = record { m = omega arith; n = omega arith }
     by_tests false true = record { m = omega arith; n = omega arith }
     by_tests false false = record { m = omega arith; n = omega arith }
@@ -79,7 +81,8 @@ seen_near w k c word below =
 -- ---- centres and corners
 -- the next centre
 pub centre-next : (w : List ℕ) (k : ℕ) → k < length w →
-    centre_of w (suc k) ≡ centre_of w k +ₚ signed_point (seen_of (take k w) (next_corner (get_or w k 0))) +ₚ signed_point (seen_of (take k w) (next_corner (next_corner (get_or w k 0))))
+    centre_of w (suc k) ≡ centre_of w k +ₚ signed_point (seen_of (take k w) (next_corner (get_or w k 0))) +ₚ signed_point
+    (seen_of (take k w) (next_corner (next_corner (get_or w k 0))))
 centre-next w k h = ap (λ v. mirrors v zero_point) (take-suc w k 0 h) ∙ centre-snoc (take k w) (get_or w k 0)
 
 -- a signed direction weighs 1
@@ -109,7 +112,15 @@ weight-moved w i (suc j) h =
     let sum = weight-+ₚ ((centre_of w k -ₚ centre_of w i) +ₚ s) s' in
     let sum' = weight-+ₚ (centre_of w k -ₚ centre_of w i) s in
     let rest = weight-moved w i j (omega (arith, h)) in
-    rw moved (omega (arith, sum, sum', rest, weight-signed_point (seen_of (take k w) (next_corner d)), weight-signed_point (seen_of (take k w) (next_corner (next_corner d)))))
+    rw moved (omega (
+      arith,
+      sum,
+      sum',
+      rest,
+      weight-signed_point (seen_of (take k w) (next_corner d)),
+      weight-signed_point
+          (seen_of (take k w) (next_corner (next_corner d))),
+    ))
 
 -- so two centres are no further apart than the crossings between them
 weight-apart : (w : List ℕ) (i j : ℕ) → i ≤ length w → j ≤ length w → weight (centre_of w i -ₚ centre_of w j) ≤ 2 * (i - j) + 2 * (j - i)
@@ -118,18 +129,21 @@ weight-apart w i j h k =
       | inl below ↦
           let i_is : i ≡ j + (i - j) = omega (arith, below) in
           let moved = weight-moved w j (i - j) (omega (arith, h, below)) in
-          let there : weight (centre_of w i -ₚ centre_of w j) ≤ 2 * (i - j) = subst (λ n. weight (centre_of w n -ₚ centre_of w j) ≤ 2 * (i - j)) (sym i_is) moved in
+          let there : weight (centre_of w i -ₚ centre_of w j) ≤ 2 * (i - j) = subst (λ n. weight (centre_of w n -ₚ centre_of w j) ≤ 2 * (i - j))
+          (sym i_is) moved in
           omega (arith, there)
       | inr below ↦
           let j_is : j ≡ i + (j - i) = omega (arith, below) in
           let moved = weight-moved w i (j - i) (omega (arith, k, below)) in
-          let back : weight (centre_of w j -ₚ centre_of w i) ≤ 2 * (j - i) = subst (λ n. weight (centre_of w n -ₚ centre_of w i) ≤ 2 * (j - i)) (sym j_is) moved in
+          let back : weight (centre_of w j -ₚ centre_of w i) ≤ 2 * (j - i) = subst (λ n. weight (centre_of w n -ₚ centre_of w i) ≤ 2 * (j - i))
+          (sym j_is) moved in
           let swapped : centre_of w i -ₚ centre_of w j ≡ negative (centre_of w j -ₚ centre_of w i) =
           ring point_ring (centre_of w i ∷ centre_of w j ∷ []) (var 0 ⊟ var 1) (opp (var 1 ⊟ var 0)) refl in
           rw swapped (omega (arith, back, weight-negative (centre_of w j -ₚ centre_of w i)))
     ]
 
-pub weight-corners_apart : (w : List ℕ) (i j c e : ℕ) → i ≤ length w → j ≤ length w → weight (corner_of w i c -ₚ corner_of w j e) ≤ 2 * (i - j) + 2 * (j - i) + 2
+pub weight-corners_apart : (w : List ℕ) (i j c e : ℕ) → i ≤ length w → j ≤ length w
+    → weight (corner_of w i c -ₚ corner_of w j e) ≤ 2 * (i - j) + 2 * (j - i) + 2
 weight-corners_apart w i j c e h k =
     let s = signed_point (seen_of (take i w) c) in
     let s' = signed_point (seen_of (take j w) e) in

@@ -36,7 +36,8 @@ stable_from_alike w t u word is first alike =
 
 -- the last centre is then the shift
 pub centre_is_shift : (w : List ℕ) (t : Triangle) → IsWord w → t ≡ triangle_of (take (length w) w) → IsStable w → IsShift w t.centre
-centre_is_shift w t word is stable = subst (IsShift w) (sym (ap (λ t. t.centre) (last_is w t is))) (shift_from_stable w word.letters word.even_length.even stable)
+centre_is_shift w t word is stable = subst (IsShift w) (sym (ap (λ t. t.centre) (last_is w t is)))
+    (shift_from_stable w word.letters word.even_length.even stable)
 
 -- what the last and the first triangle of what is kept tell
 pub record TellsShift (w : List ℕ) (t u : Triangle) : Type 0 where

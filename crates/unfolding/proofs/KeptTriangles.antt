@@ -1,5 +1,6 @@
 -- Triangles as they are kept: the limits of the sums in them, and that they are the triangles of a word.
-use Rattle.std.proofs.Common.{◌≡◌, ℕ, ◌+◌, ◌-◌, ◌*◌, ◌%◌, ◌==◌, ◌≤◌, Bool, true, false, not, List, [], ◌∷◌, ◌++◌, slice_index_or, ℤ, w64, to_z, of_z, refl, sym, ap, ap₂, subst, ◌∙◌, ◌<◌, length, take, length-append, length-take, get_or, add-one, inl, inr, arith}
+use Rattle.std.proofs.Common.{◌≡◌, ℕ, ◌+◌, ◌-◌, ◌*◌, ◌%◌, ◌==◌, ◌≤◌, Bool, true, false, not, List, [], ◌∷◌, ◌++◌, slice_index_or, ℤ, w64, to_z, of_z}
+use Rattle.std.proofs.Common.{refl, sym, ap, ap₂, subst, ◌∙◌, ◌<◌, length, take, length-append, length-take, get_or, add-one, inl, inr, arith}
 use Rattle.std.proofs.Math.ListN.{get_or-append}
 use Rattle.std.proofs.Math.Seq.{get_or-append_seam, take-suc}
 use Rattle.std.proofs.lemmas.Bool.{cases_lt}
@@ -23,9 +24,6 @@ use Rattle.unfolding.proofs.Crossing.{All-three}
 use Rattle.unfolding.proofs.Bounds.{weight-signed, seen_near, weight-centre, within-centre}
 
 -- a sum that begins at the origin
-pub from_origin : (p q : FormalPoint) → p ≡ zero_point +ₚ q → p ≡ q
-from_origin p q e = e ∙ ring point_ring (q ∷ []) (num 0 ⊞ var 0) (var 0) refl
-
 pub weight-origin : (p : FormalPoint) → p ≡ zero_point → weight p ≡ 0
 weight-origin p e = ap weight e ∙ weight-zero_point
 
@@ -38,11 +36,13 @@ sign_read true z e = ap (λ z. to_z w64 (of_z w64 z)) e
 sign_read false z e = ap (λ z. to_z w64 (of_z w64 z)) e
 
 -- a small sum and a signed direction more are within the limits
-pub moved_in_limits : (p q : FormalPoint) (b : Bool) (d : Dir) → p ≡ q → weight q ≤ 1000 → IsWithin 1000 q → IsNear 1000 d → IsWithinLimits (p +ₚ monomial (sign_of b) d)
+pub moved_in_limits : (p q : FormalPoint) (b : Bool) (d : Dir) → p ≡ q → weight q ≤ 1000 → IsWithin 1000 q → IsNear 1000 d
+    → IsWithinLimits (p +ₚ monomial (sign_of b) d)
 moved_in_limits p q b d e light within near =
     subst (λ p. IsWithinLimits (p +ₚ monomial (sign_of b) d)) (sym e)
     (record {
-      near = IsWithin-weaker 1000 4096 (q +ₚ monomial (sign_of b) d) (omega arith) (IsWithin-+ₚ 1000 q (monomial (sign_of b) d) within (IsWithin-monomial 1000 (sign_of b) d near));
+      near = IsWithin-weaker 1000 4096 (q +ₚ monomial (sign_of b) d) (omega arith)
+          (IsWithin-+ₚ 1000 q (monomial (sign_of b) d) within (IsWithin-monomial 1000 (sign_of b) d near));
       light = omega (arith, light, weight-+ₚ q (monomial (sign_of b) d), weight-signed b d);
     })
 
@@ -54,7 +54,8 @@ pub round_is : (w : List ℕ) (centre : FormalPoint) (minus : Bool) (ds : List D
     c ≡ centre +ₚ monomial (sign_of minus) (slice_index_or ds 2 z) →
     record { centre = centre; minus = minus; dirs = ds; corners = a ∷ b ∷ c ∷ [] } ≡ triangle_of w
 round_is w centre minus ds z a b c at_centre reversed seen first second third =
-    let corner_is : (i k : ℕ) (p : FormalPoint) → p ≡ centre +ₚ monomial (sign_of minus) (slice_index_or ds i z) → slice_index_or (dirs_of w) i z ≡ mirrored_dir w (corner_dir k) → p ≡ mirrors w (first_corner k) =
+    let corner_is : (i k : ℕ) (p : FormalPoint) → p ≡ centre +ₚ monomial (sign_of minus) (slice_index_or ds i z)
+    → slice_index_or (dirs_of w) i z ≡ mirrored_dir w (corner_dir k) → p ≡ mirrors w (first_corner k) =
     λ i k p here dir.
     here
     ∙ (λ j. at_centre j +ₚ monomial (sign_of (reversed j)) (slice_index_or (seen j) i z))
@@ -112,7 +113,8 @@ pub across_is : (w : List ℕ) (k : ℕ) (t : Triangle) → k < length w → t �
 across_is w k t below is = is ∙ ap triangle_of (sym (take-suc w k 0 below) ∙ ap (λ j. take j w) (sym (add-one k)))
 
 -- one triangle more
-pub triangles-snoc : (w : List ℕ) (k : ℕ) (ts : List Triangle) (t : Triangle) → AreTrianglesOf w k ts → t ≡ triangle_of (take (k + 1) w) → AreTrianglesOf w (k + 1) (ts ++ t ∷ [])
+pub triangles-snoc : (w : List ℕ) (k : ℕ) (ts : List Triangle) (t : Triangle) → AreTrianglesOf w k ts → t ≡ triangle_of (take (k + 1) w)
+    → AreTrianglesOf w (k + 1) (ts ++ t ∷ [])
 triangles-snoc w k ts t h is = record {
   count = omega (arith, h.count, length-append ts (t ∷ []));
   each = λ j z below. elim (cases_lt j (k + 1)) [
@@ -126,7 +128,8 @@ triangles-snoc w k ts t h is = record {
 
 -- ---- what is kept, read
 -- triangle k of what is kept for a word
-pub kept_triangle : (w v : List ℕ) (ts : List Triangle) (k : ℕ) (t : Triangle) → w ≡ v → IsUnfolding w ts → k ≤ length v → t ≡ slice_index_or ts k t → t ≡ triangle_of (take k v)
+pub kept_triangle : (w v : List ℕ) (ts : List Triangle) (k : ℕ) (t : Triangle) → w ≡ v → IsUnfolding w ts → k ≤ length v → t ≡ slice_index_or ts k t
+    → t ≡ triangle_of (take k v)
 kept_triangle w v ts k t same h below here =
     here ∙ h.triangles.each k t (subst (λ u. k ≤ length u) (sym same) below) ∙ ap (λ u. triangle_of (take k u)) same
 
@@ -136,12 +139,14 @@ centre_light w k t is h = subst (λ t. weight t.centre ≤ 2 * k) (sym is) (weig
 pub centre_within : (w : List ℕ) (k : ℕ) (t : Triangle) → t ≡ triangle_of (take k w) → IsWord w → k ≤ length w → IsWithin 65 t.centre
 centre_within w k t is word h = subst (λ t. IsWithin 65 t.centre) (sym is) (within-centre w k word h)
 
-pub corner-at : (w : List ℕ) (k c : ℕ) (t : Triangle) (z : FormalPoint) → t ≡ triangle_of (take k w) → IsCorner c → slice_index_or t.corners (c - 1) z ≡ corner_of w k c
+pub corner-at : (w : List ℕ) (k c : ℕ) (t : Triangle) (z : FormalPoint) → t ≡ triangle_of (take k w) → IsCorner c
+    → slice_index_or t.corners (c - 1) z ≡ corner_of w k c
 corner-at w k c t z is h =
     ap (λ t. slice_index_or t.corners (c - 1) z) is
     ∙ letter_cases (λ c. slice_index_or (triangle_of (take k w)).corners (c - 1) z ≡ corner_of w k c) c h refl refl refl
 
-pub dir-at : (w : List ℕ) (k c : ℕ) (t : Triangle) (z : Dir) → t ≡ triangle_of (take k w) → IsCorner c → slice_index_or t.dirs (c - 1) z ≡ mirrored_dir (take k w) (corner_dir c)
+pub dir-at : (w : List ℕ) (k c : ℕ) (t : Triangle) (z : Dir) → t ≡ triangle_of (take k w) → IsCorner c
+    → slice_index_or t.dirs (c - 1) z ≡ mirrored_dir (take k w) (corner_dir c)
 dir-at w k c t z is h = ap (λ t. slice_index_or t.dirs (c - 1) z) is ∙ dirs_of-at (take k w) c z h
 
 -- a corner is the centre and what is seen from there

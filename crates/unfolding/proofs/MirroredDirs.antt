@@ -1,5 +1,6 @@
 -- How the directions of corners change along a word: the next step, how far they reach, and where they come back.
-use Rattle.std.proofs.Common.{◌≡◌, ℕ, zero, suc, ◌+◌, ◌*◌, ◌%◌, ◌≤◌, ◌==◌, Bool, true, false, not, List, [], ◌∷◌, ◌++◌, length, ℤ, pos, ◌+ℤ◌, neg_ℤ, if◌then◌else◌, refl, ap, ◌∙◌, arith}
+use Rattle.std.proofs.Common.{◌≡◌, ℕ, zero, suc, ◌+◌, ◌*◌, ◌%◌, ◌≤◌, ◌==◌, Bool, true, false, not, List, [], ◌∷◌, ◌++◌, length, ℤ, pos, ◌+ℤ◌, neg_ℤ}
+use Rattle.std.proofs.Common.{if◌then◌else◌, refl, ap, ◌∙◌, arith}
 use Rattle.std.proofs.lemmas.Int.{ints}
 use Rattle.std.proofs.lemmas.Bool.Decides.{nat_tests}
 use Rattle.std.proofs.lemmas.List.Elements.{All-head, All-tail, All-cons}
@@ -19,12 +20,14 @@ same_dir d e m n = λ i. record { m = m i; n = n i }
 
 -- one more letter: each direction is mirrored in the edge as it is seen from the centre
 pub mirrored_dir-snoc-m : (w : List ℕ) (d : ℕ) (e : Dir) →
-    (mirrored_dir (w ++ d ∷ []) e).m +ℤ (mirrored_dir w e).m ≡ (mirrored_dir w (corner_dir (next_corner d))).m +ℤ (mirrored_dir w (corner_dir (next_corner (next_corner d)))).m
+    (mirrored_dir (w ++ d ∷ []) e).m +ℤ (mirrored_dir w e).m
+    ≡ (mirrored_dir w (corner_dir (next_corner d))).m +ℤ (mirrored_dir w (corner_dir (next_corner (next_corner d)))).m
 mirrored_dir-snoc-m [] d e = omega (arith, ints)
 mirrored_dir-snoc-m (x ∷ w) d e = omega (arith, ints, mirrored_dir-snoc-m w d e)
 
 pub mirrored_dir-snoc-n : (w : List ℕ) (d : ℕ) (e : Dir) →
-    (mirrored_dir (w ++ d ∷ []) e).n +ℤ (mirrored_dir w e).n ≡ (mirrored_dir w (corner_dir (next_corner d))).n +ℤ (mirrored_dir w (corner_dir (next_corner (next_corner d)))).n
+    (mirrored_dir (w ++ d ∷ []) e).n +ℤ (mirrored_dir w e).n
+    ≡ (mirrored_dir w (corner_dir (next_corner d))).n +ℤ (mirrored_dir w (corner_dir (next_corner (next_corner d)))).n
 mirrored_dir-snoc-n [] d e = omega (arith, ints)
 mirrored_dir-snoc-n (x ∷ w) d e = omega (arith, ints, mirrored_dir-snoc-n w d e)
 
@@ -131,8 +134,11 @@ pub mirrored_from_stable : (w : List ℕ) (e : Dir) → All IsLetter w → lengt
 unfolding oriented
 mirrored_from_stable w e h even stable =
     let b = is_reversed-even w even in
-    let m : (mirrored_dir w e).m +ℤ pos (2 * count_of 2 (at_even_places w)) ≡ e.m +ℤ pos (2 * count_of 2 (at_odd_places w)) = mirrored_dir-counts-m w e h ∙ ap (λ b. oriented b e.m +ℤ pos (2 * count_of 2 (at_odd_places w))) b in
-    let n : (mirrored_dir w e).n +ℤ pos (2 * count_of 1 (at_odd_places w)) ≡ e.n +ℤ pos (2 * count_of 1 (at_even_places w)) = mirrored_dir-counts-n w e h ∙ ap (λ b. oriented b e.n +ℤ pos (2 * count_of 1 (at_even_places w))) b in
+    let m : (mirrored_dir w e).m +ℤ pos (2 * count_of 2 (at_even_places w))
+    ≡ e.m +ℤ pos (2 * count_of 2 (at_odd_places w)) = mirrored_dir-counts-m w e h ∙ ap (λ b. oriented b e.m +ℤ pos (2 * count_of 2 (at_odd_places w))) b in
+    let n : (mirrored_dir w e).n +ℤ pos (2 * count_of 1 (at_odd_places w))
+    ≡ e.n +ℤ pos (2 * count_of 1 (at_even_places w)) = mirrored_dir-counts-n w e h
+    ∙ ap (λ b. oriented b e.n +ℤ pos (2 * count_of 1 (at_even_places w))) b in
     let one = stable 1 (omega arith, omega arith) in
     let two = stable 2 (omega arith, omega arith) in
     same_dir (mirrored_dir w e) e (omega (arith, ints, m, two)) (omega (arith, ints, n, one))
@@ -142,8 +148,11 @@ pub stable_from_mirrored : (w : List ℕ) (e : Dir) → All IsLetter w → lengt
 unfolding oriented
 stable_from_mirrored w e h even same x letter =
     let b = is_reversed-even w even in
-    let m : (mirrored_dir w e).m +ℤ pos (2 * count_of 2 (at_even_places w)) ≡ e.m +ℤ pos (2 * count_of 2 (at_odd_places w)) = mirrored_dir-counts-m w e h ∙ ap (λ b. oriented b e.m +ℤ pos (2 * count_of 2 (at_odd_places w))) b in
-    let n : (mirrored_dir w e).n +ℤ pos (2 * count_of 1 (at_odd_places w)) ≡ e.n +ℤ pos (2 * count_of 1 (at_even_places w)) = mirrored_dir-counts-n w e h ∙ ap (λ b. oriented b e.n +ℤ pos (2 * count_of 1 (at_even_places w))) b in
+    let m : (mirrored_dir w e).m +ℤ pos (2 * count_of 2 (at_even_places w))
+    ≡ e.m +ℤ pos (2 * count_of 2 (at_odd_places w)) = mirrored_dir-counts-m w e h ∙ ap (λ b. oriented b e.m +ℤ pos (2 * count_of 2 (at_odd_places w))) b in
+    let n : (mirrored_dir w e).n +ℤ pos (2 * count_of 1 (at_odd_places w))
+    ≡ e.n +ℤ pos (2 * count_of 1 (at_even_places w)) = mirrored_dir-counts-n w e h
+    ∙ ap (λ b. oriented b e.n +ℤ pos (2 * count_of 1 (at_even_places w))) b in
     let same-m = ap (λ d. d.m) same in
     let same-n = ap (λ d. d.n) same in
     let one : count_of 1 (at_odd_places w) ≡ count_of 1 (at_even_places w) = omega (arith, ints, n, same-n) in

@@ -25,7 +25,8 @@ seen_point-cons d w e =
     let p = corner_dir (next_corner d) in
     let q = corner_dir (next_corner (next_corner d)) in
     ap negative
-    (ap₂ ◌*ₚ◌ (monomial-*ₚ (pos 1) (pos 1) p q) (monomial-conj s (mirrored_dir w e)) ∙ monomial-*ₚ (pos 1 *ℤ pos 1) s (dir_sum p q) (dir_neg (mirrored_dir w e)))
+    (ap₂ ◌*ₚ◌ (monomial-*ₚ (pos 1) (pos 1) p q) (monomial-conj s (mirrored_dir w e))
+    ∙ monomial-*ₚ (pos 1 *ℤ pos 1) s (dir_sum p q) (dir_neg (mirrored_dir w e)))
     ∙ monomial-negative (pos 1 *ℤ pos 1 *ℤ s) (dir_sum (dir_sum p q) (dir_neg (mirrored_dir w e)))
     ∙ ap (λ c. monomial c (dir_sum (dir_sum p q) (dir_neg (mirrored_dir w e)))) (sign_of-not (is_reversed w))
 
@@ -60,7 +61,8 @@ mirror-zero_point d =
 
 -- the next centre is the old one and the two ends of the crossed edge, as they are seen from there
 pub centre-snoc : (w : List ℕ) (d : ℕ) →
-    mirrors (w ++ d ∷ []) zero_point ≡ mirrors w zero_point +ₚ signed_point (seen_of w (next_corner d)) +ₚ signed_point (seen_of w (next_corner (next_corner d)))
+    mirrors (w ++ d ∷ []) zero_point ≡ mirrors w zero_point +ₚ signed_point (seen_of w (next_corner d)) +ₚ signed_point (seen_of w
+    (next_corner (next_corner d)))
 unfolding first_corner
 centre-snoc w d =
     let p = corner_dir (next_corner d) in

@@ -85,8 +85,7 @@ fn moved(alloc: Global, from: &ExpSum, minus: bool, dir: Dir) -> Result<ExpSum, 
     requires near { IsNear 1000 dir }
     ensures { IfOk result (λ p. p ≡ from.now +ₚ monomial (sign_of minus) dir) }
 {
-    let mut to = ExpSum::new(alloc);
-    to.add(from)?;
+    let mut to = from.copied(alloc)?;
     to.add_dir(dir, sign(minus))?;
     Ok(to)
 }

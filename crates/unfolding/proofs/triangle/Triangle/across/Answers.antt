@@ -8,7 +8,8 @@ pub moved-requires-2-clause-light : goal.moved-requires-2-clause-light
 moved-requires-2-clause-light c = let light = moved_light 128 _ _ _ _ c.in_ok-half_way.ensures c.requires.small.light in omega (arith, light)
 
 pub moved-requires-2-clause-within : goal.moved-requires-2-clause-within
-moved-requires-2-clause-within c = IsWithin-weaker 65 1000 _ (omega arith) (moved_within 65 _ _ _ _ c.in_ok-half_way.ensures c.requires.small.within (c.requires.small.near _ _ (omega arith)))
+moved-requires-2-clause-within c = IsWithin-weaker 65 1000 _ (omega arith)
+    (moved_within 65 _ _ _ _ c.in_ok-half_way.ensures c.requires.small.within (c.requires.small.near _ _ (omega arith)))
 
 pub round-requires-clause-light : goal.round-requires-clause-light
 round-requires-clause-light c =
