@@ -1,6 +1,6 @@
 -- The terms z^k / k! of the exponential series: they add up as the binomial theorem says, and where 0 ≤ z ≤ 16/5 each is at
 -- most half of the one before it from the sixth on, so that the rest of the series is at most its first term.
-use Rattle.std.proofs.Common.{◌≡◌, refl, sym, ap, ap₂, ◌∙◌, ℕ, zero, suc, ◌+◌, ◌*◌, ◌≤◌, pos, [], ◌∷◌, arith, lit<, zero-lt-suc}
+use Rattle.std.proofs.Common.{◌≡◌, refl, sym, ap, ap₂, ◌∙◌, subst, ℕ, zero, suc, ◌+◌, ◌-◌, ◌*◌, ◌≤◌, pos, [], ◌∷◌, arith, lit<, zero-lt-suc}
 use Rattle.ring_solver.specs.Expression.{var, num, ◌⊞◌, ◌⊟◌, ◌⊠◌}
 use Rattle.ring_solver.specs.Ordered.{le, times, same}
 use Rattle.ring_solver.proofs.Solver.{ring₁, ring₂, ring₃, ring₄, ring₅}
@@ -92,15 +92,21 @@ abs-exponential_term z k =
 
 -- ---- the terms fall
 
+degree_difference : (m n : ℕ) → m ≤ n → degree (n - m) m ≡ n
+degree_difference m n l = let e = degree-is (n - m) m in omega (arith, e)
+
 -- terms that do not rise from m on
-pub falling_from : (f : ℕ → ℚ) (m : ℕ) → ((k : ℕ) → m ≤ k → f (suc k) ≤ℚ f k) → (d : ℕ) → f (degree d m) ≤ℚ f m
-falling_from f m h zero = le_refl (f m)
-falling_from f m h (suc d) =
+falling_by : (f : ℕ → ℚ) (m : ℕ) → ((k : ℕ) → m ≤ k → f (suc k) ≤ℚ f k) → (d : ℕ) → f (degree d m) ≤ℚ f m
+falling_by f m h zero = le_refl (f m)
+falling_by f m h (suc d) =
     let e = degree-is d m in
-    le_trans (f (suc (degree d m))) (f (degree d m)) (f m) (h (degree d m) (omega (arith, e))) (falling_from f m h d)
+    le_trans (f (suc (degree d m))) (f (degree d m)) (f m) (h (degree d m) (omega (arith, e))) (falling_by f m h d)
+
+pub falling_from : (f : ℕ → ℚ) (m n : ℕ) → ((k : ℕ) → m ≤ k → f (suc k) ≤ℚ f k) → m ≤ n → f n ≤ℚ f m
+falling_from f m n h l = subst (λ k. f k ≤ℚ f m) (degree_difference m n l) (falling_by f m h (n - m))
 
 -- where each term is at most half of the one before it, a sum from m on is at most the term m
-pub halving_sum : (f : ℕ → ℚ) (m : ℕ) → ((k : ℕ) → whole 0 ≤ℚ f k) → ((k : ℕ) → m ≤ k → f (suc k) +ℚ f (suc k) ≤ℚ f k)
+halving_sum : (f : ℕ → ℚ) (m : ℕ) → ((k : ℕ) → whole 0 ≤ℚ f k) → ((k : ℕ) → m ≤ k → f (suc k) +ℚ f (suc k) ≤ℚ f k)
     → (d : ℕ) → sum_to f (degree d m) -ℚ sum_to f m +ℚ f (degree d m) ≤ℚ f m
 halving_sum f m nonneg h zero =
     le₃ ℚ_ordered (λ s a b. s ⊟ s ⊞ a) (λ s a b. a) (λ s a b. []) refl (sum_to f m) (f m) (f m) tt
@@ -136,13 +142,14 @@ module _ (z : ℚ) (nonneg : whole 0 ≤ℚ z) (small : z ≤ℚ pos 16 ÷ 5) wh
       le₃ ℚ_ordered (λ u t v. u) (λ u t v. t) (λ u t v. le (u ⊞ u) t ∷ le (num 0) u ∷ []) refl
       U (exponential_term z k) U (exponential_term_halves k l, (exponential_term_nonneg z nonneg (suc k), tt))
 
-  -- the terms after m, d of them, come to at most the term m
-  pub exponential_later : (m d : ℕ) → 6 ≤ m → exponential_sum z (degree d m) -ℚ exponential_sum z m ≤ℚ exponential_term z m
-  exponential_later m d l =
+  -- the terms after m, up to n, come to at most the term m
+  pub exponential_later : (m n : ℕ) → 6 ≤ m → m ≤ n → exponential_sum z n -ℚ exponential_sum z m ≤ℚ exponential_term z m
+  exponential_later m n early l =
       let f = exponential_term z in
-      let s = exponential_sum z (degree d m) -ℚ exponential_sum z m in
+      let h = halving_sum f m (exponential_term_nonneg z nonneg) (λ k k_late. exponential_term_halves k (omega arith)) (n - m) in
+      let s = exponential_sum z n -ℚ exponential_sum z m in
       le₃ ℚ_ordered (λ s t u. s) (λ s t u. u) (λ s t u. le (s ⊞ t) u ∷ le (num 0) t ∷ []) refl
-      s (f (degree d m)) (f m) (
-        halving_sum f m (exponential_term_nonneg z nonneg) (λ k h. exponential_term_halves k (omega arith)) d,
-        (exponential_term_nonneg z nonneg (degree d m), tt),
+      s (f n) (f m) (
+        subst (λ k. sum_to f k -ℚ sum_to f m +ℚ f k ≤ℚ f m) (degree_difference m n l) h,
+        (exponential_term_nonneg z nonneg n, tt),
       )

@@ -8,6 +8,7 @@ pub mod PiBetween
 pub mod PiSums
 pub mod Pieces
 pub mod Products
+pub mod QuarterSums
 pub mod SteepSums
 pub mod Sums
 pub mod Tail

@@ -63,6 +63,17 @@ sum_to_mono f h (suc m) (suc n) l =
     (le₃ ℚ_ordered (λ a x y. a ⊞ x) (λ a x y. a ⊞ y) (λ a x y. le x y ∷ []) refl
     (f 0) (sum_to g m) (sum_to g n) (sum_to_mono g (λ j. h (suc j)) m n (le_of_suc-le-suc l), tt))
 
+pub sum_to_at_most : (f g : ℕ → ℚ) → ((j : ℕ) → f j ≤ℚ g j) → (n : ℕ) → sum_to f n ≤ℚ sum_to g n
+sum_to_at_most f g h zero = h 0
+sum_to_at_most f g h (suc n) = add_mono_both ℚ_ordered (sum_to f n) (sum_to g n) (f (suc n)) (g (suc n)) (sum_to_at_most f g h n) (h (suc n))
+
+-- a sum is in size at most one whose terms are at least the sizes of its own
+pub sum_to_size : (f g : ℕ → ℚ) → ((j : ℕ) → abs (f j) ≤ℚ g j) → (n : ℕ) → abs (sum_to f n) ≤ℚ sum_to g n
+sum_to_size f g h zero = h 0
+sum_to_size f g h (suc n) =
+    le_trans (abs (sum_to f (suc n))) (abs (sum_to f n) +ℚ abs (f (suc n))) (sum_to g (suc n)) (abs_add_le (sum_to f n) (f (suc n)))
+    (add_mono_both ℚ_ordered (abs (sum_to f n)) (sum_to g n) (abs (f (suc n))) (g (suc n)) (sum_to_size f g h n) (h (suc n)))
+
 -- where each term is in size at most that of another sum, so is what a longer sum has beyond a shorter one
 pub tail_at_most : (f g : ℕ → ℚ) → ((j : ℕ) → abs (f j) ≤ℚ g j) → (m n : ℕ) → m ≤ n
     → abs (sum_to f n -ℚ sum_to f m) ≤ℚ sum_to g n -ℚ sum_to g m

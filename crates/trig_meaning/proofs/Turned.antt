@@ -6,15 +6,15 @@ use Rattle.ring_solver.specs.Ordered.{le, times}
 use Rattle.ring_solver.proofs.Solver.{ring, ring₁, ring₂, ring₃, ring₄}
 use Rattle.ring_solver.proofs.Certificate.{le₂, le₃, moved, at_most_of_same}
 use Rattle.rat_core.specs.Fraction.{ℚ, ◌÷◌, whole, ◌+ℚ◌, ◌-ℚ◌, ◌*ℚ◌, neg_ℚ, ◌≤ℚ◌, abs}
-use Rattle.rat_core.proofs.Laws.{ℚ_ring, ℚ_ordered, le_trans, mul_nonneg}
-use Rattle.rat_core.proofs.Order.{abs-neg, abs-mul}
+use Rattle.rat_core.proofs.Laws.{ℚ_ring, ℚ_ordered, le_refl, le_trans, mul_nonneg}
+use Rattle.rat_core.proofs.Order.{whole_nonneg, difference_nonneg, abs_of_nonneg, abs-neg, abs-mul}
 use Rattle.rat_core.proofs.Sizes.{abs_nonneg}
 use Rattle.trig_meaning.specs.PartialSums.{sum_to, sign, power, factorial, sine_sum, cosine_sum}
-use Rattle.trig_meaning.proofs.Sums.{sum_to-same, tail_at_most}
+use Rattle.trig_meaning.proofs.Sums.{sum_to-same, sum_to-difference, sum_to_size, tail_at_most}
 use Rattle.trig_meaning.proofs.Alternating.{twice}
 use Rattle.trig_meaning.proofs.Odd.{even_is, odd_is}
 use Rattle.trig_meaning.proofs.Products.{degree, diagonal, triangle, square, le_degree, diagonal-level, square-same, square-add, square-product, corner_at_most, square_in_triangle}
-use Rattle.trig_meaning.proofs.Exponential.{exponential_term, exponential_sum, binomial, exponential_term_nonneg, abs-exponential_term}
+use Rattle.trig_meaning.proofs.Exponential.{exponential_term, exponential_sum, binomial, exponential_term_nonneg, exponential_term_mono, abs-exponential_term}
 
 -- ---- the coefficients
 
@@ -49,6 +49,12 @@ turned-twice x y (suc j) = turned-twice (neg_ℚ x) (neg_ℚ y) j ∙ ring₂ �
 turned_small : (x y : ℚ) → abs x ≤ℚ whole 1 → abs y ≤ℚ whole 1 → (k : ℕ) → abs (turned x y k) ≤ℚ whole 1
 turned_small x y h l zero = h
 turned_small x y h l (suc k) = turned_small y (neg_ℚ x) l (moved ℚ_ordered (sym (abs-neg x)) refl h) k
+
+pub one_small : abs (whole 1) ≤ℚ whole 1
+one_small = at_most_of_same ℚ_ordered (abs_of_nonneg (whole 1) (whole_nonneg 1))
+
+pub zero_small : abs (whole 0) ≤ℚ whole 1
+zero_small = moved ℚ_ordered (sym (abs_of_nonneg (whole 0) (le_refl (whole 0)))) refl (whole_nonneg 1)
 
 -- ---- the sums
 
@@ -164,3 +170,17 @@ module _ (x y : ℚ) (x_small : abs x ≤ℚ whole 1) (y_small : abs y ≤ℚ wh
       tail_at_most (λ k. turned x y k *ℚ exponential_term z k) (exponential_term (abs z))
       (λ k. shrunk (turned x y k) (exponential_term z k) (exponential_term (abs z) k) (turned_small x y x_small y_small k)
       (abs-exponential_term z k) (exponential_term_nonneg (abs z) (abs_nonneg z) k)) m n l
+
+  -- from w to z such a sum changes by at most as much as the exponential sum
+  pub turned_change : (w z : ℚ) → whole 0 ≤ℚ w → w ≤ℚ z → (m : ℕ) → abs (turned_sum x y z m -ℚ turned_sum x y w m) ≤ℚ exponential_sum z m -ℚ exponential_sum w m
+  unfolding turned_sum
+  turned_change w z h l m =
+      let f : ℕ → ℚ = λ k. turned x y k *ℚ exponential_term z k in
+      let g : ℕ → ℚ = λ k. turned x y k *ℚ exponential_term w k in
+      let rise : ℕ → ℚ = λ k. exponential_term z k -ℚ exponential_term w k in
+      moved ℚ_ordered (sym (ap abs (sum_to-difference f g m))) (sym (sum_to-difference (exponential_term z) (exponential_term w) m))
+      (sum_to_size (λ k. f k -ℚ g k) rise
+      (λ k. let up = difference_nonneg (exponential_term w k) (exponential_term z k) (exponential_term_mono w z h l k) in
+      moved ℚ_ordered
+      (ap abs (ring₃ ℚ_ring (λ c s t. c ⊠ (s ⊟ t)) (λ c s t. c ⊠ s ⊟ c ⊠ t) refl (turned x y k) (exponential_term z k) (exponential_term w k))) refl
+      (shrunk (turned x y k) (rise k) (rise k) (turned_small x y x_small y_small k) (abs_of_nonneg (rise k) up) up)) m)

@@ -4,7 +4,7 @@ use Rattle.rat_core.specs.Fraction.{ℚ, ◌÷◌, whole, ◌+ℚ◌, ◌-ℚ◌
 use Rattle.exp_sums.specs.declared.direction.Dir.{Dir}
 use Rattle.exp_sums.specs.FormalPoint.{FormalPoint, monomial, ◌+ₚ◌}
 use Rattle.exp_sums.specs.SineForm.{sine_form}
-use Rattle.trig_meaning.specs.PartialSums.{pi_sum}
+use Rattle.trig_meaning.specs.PartialSums.{pi_sum, sine_sum, cosine_sum}
 use Rattle.trig_meaning.specs.Turn.{first_piece, second_piece, third_piece, fourth_piece, sine_of_turn}
 use Rattle.trig_meaning.specs.FromSomeOn.{FromSomeOn}
 use Rattle.trig_meaning.specs.Value.{turn_of, value_at, second_coordinate}
@@ -49,3 +49,11 @@ pub record PiWithin (bits : ℕ) (lo hi : ℤ) (n : ℕ) : Type 0 where
 pub record PiBetween : Type 0 where
   pub fine : FromSomeOn (PiWithin 60 (pos 0x3243F6A8885A308D) (pos 0x3243F6A8885A308E))
   pub coarse : FromSomeOn (PiWithin 40 (pos 0x3243F6A8885) (pos 0x3243F6A8886))
+
+-- at half of pi the cosine sum is within 2^−72 of 0, and the sine sum within 2^−72 of 1
+pub record QuarterSumsAt (n : ℕ) : Type 0 where
+  pub cosine : abs (cosine_sum n (pi_sum n *ℚ (pos 1 ÷ 2))) ≤ℚ pos 1 ÷ 2 ^ 72
+  pub sine : abs (sine_sum n (pi_sum n *ℚ (pos 1 ÷ 2)) -ℚ whole 1) ≤ℚ pos 1 ÷ 2 ^ 72
+
+abbrev pub QuarterSums : Type 0
+QuarterSums = FromSomeOn QuarterSumsAt

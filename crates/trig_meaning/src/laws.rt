@@ -1,11 +1,17 @@
 //! Laws of the approximations, each a function whose contract is the law. The program calls none of them.
 
-ghost use Rattle.trig_meaning.specs.Laws.{PiBetween, PiecesAgree, SineIsOdd, HalfTurnNegates, WholeTurnsKeep, SineIsLipschitz, ValuesAddUp, SineFormsAreSecondCoordinates};
+ghost use Rattle.trig_meaning.specs.Laws.{PiBetween, QuarterSums, PiecesAgree, SineIsOdd, HalfTurnNegates, WholeTurnsKeep, SineIsLipschitz, ValuesAddUp, SineFormsAreSecondCoordinates};
 
 /// From some n on, the approximation of pi lies between two neighbours of 60 bits, 0x3243F6A8885A308D·2^-60 and one unit of
 /// 2^-60 more, and between two of 40 bits, 0x3243F6A8885·2^-40 and one unit of 2^-40 more.
 pub fn pi_between()
     ensures { PiBetween }
+{}
+
+/// From some n on, the cosine sum at half of the approximation of pi is within 2^-72 of 0, and the sine sum there within 2^-72
+/// of 1.
+pub fn quarter_sums()
+    ensures { QuarterSums }
 {}
 
 /// The four pieces of the approximation of sin(pi·t) agree where they meet, at t = 0, 1/2, 1 and 3/2, for every n.
