@@ -11,6 +11,7 @@ pub mod Pieces
 pub mod Products
 pub mod QuarterSums
 pub mod Quarters
+pub mod SecondOrder
 pub mod SteepSums
 pub mod SumAddition
 pub mod SumSizes

@@ -109,7 +109,7 @@ sine_line-abs n z =
     (λ _. ap abs (ap (λ t. t -ℚ neg_ℚ z) (sine_sum-neg n z) ∙ ring₂ ℚ_ring (λ s z. opp s ⊟ opp z) (λ s z. opp (s ⊟ z)) refl (sine_sum n z) z)
     ∙ abs-neg (sine_sum n z -ℚ z))
 
-square-abs : (z : ℚ) → abs z *ℚ abs z ≡ z *ℚ z
+pub square-abs : (z : ℚ) → abs z *ℚ abs z ≡ z *ℚ z
 square-abs z = abs_cases (λ a. a *ℚ a ≡ z *ℚ z) z (λ _. refl) (λ _. ring₁ ℚ_ring (λ z. opp z ⊠ opp z) (λ z. z ⊠ z) refl z)
 
 module _ (n : ℕ) (z : ℚ) (small : abs z ≤ℚ pos 8 ÷ 5) where

@@ -1,6 +1,6 @@
 //! Laws of the approximations, each a function whose contract is the law. The program calls none of them.
 
-ghost use Rattle.trig_meaning.specs.Laws.{PiBetween, QuarterSums, Addition, PiecesAgree, SineIsOdd, HalfTurnNegates, WholeTurnsKeep, SineIsLipschitz, ValuesAddUp, SineFormsAreSecondCoordinates};
+ghost use Rattle.trig_meaning.specs.Laws.{PiBetween, QuarterSums, Addition, SecondOrder, PiecesAgree, SineIsOdd, HalfTurnNegates, WholeTurnsKeep, SineIsLipschitz, ValuesAddUp, SineFormsAreSecondCoordinates};
 
 /// From some n on, the approximation of pi lies between two neighbours of 60 bits, 0x3243F6A8885A308D·2^-60 and one unit of
 /// 2^-60 more, and between two of 40 bits, 0x3243F6A8885·2^-40 and one unit of 2^-40 more.
@@ -56,4 +56,11 @@ pub fn sine_forms_are_second_coordinates()
 /// fractions t and u, where s is the approximation of sin(pi·t). One n serves all fractions.
 pub fn addition()
     ensures { Addition }
+{}
+
+/// The law of second order: from some n on, the approximation of sin(pi·t) between t - h and t + h is within
+/// `2·pi²·h² + 2^-50` of the straight line through its values at both ends, for any fraction t and 0 <= h <= 1/8, where pi is
+/// the n-th approximation. One n serves all fractions.
+pub fn second_order()
+    ensures { SecondOrder }
 {}
