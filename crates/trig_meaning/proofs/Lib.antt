@@ -1,3 +1,4 @@
+pub mod Addition
 pub mod Alternating
 pub mod Exponential
 pub mod FromSomeOnLaws
@@ -9,7 +10,11 @@ pub mod PiSums
 pub mod Pieces
 pub mod Products
 pub mod QuarterSums
+pub mod Quarters
+pub mod SecondOrder
 pub mod SteepSums
+pub mod SumAddition
+pub mod SumSizes
 pub mod Sums
 pub mod Tail
 pub mod Turned

@@ -60,7 +60,7 @@ factors_large k m =
     le_trans_ℕ (lit≤ {m = 6} {n = 3 * 2} tt) (mul-le-mul {n₁ = 3} {m₁ = 2} {n₂ = suc (suc k)} {m₂ = suc k} a b)
 
 -- two steps of the power and of the factorial
-two_steps : (z : ℚ) → whole 0 ≤ℚ z → z ≤ℚ pos 8 ÷ 5 → (k : ℕ) → 1 ≤ k → power z (suc (suc k)) *ℚ (pos 1 ÷ factorial (suc (suc k))) ≤ℚ power z k *ℚ (pos 1 ÷ factorial k)
+pub two_steps : (z : ℚ) → whole 0 ≤ℚ z → z ≤ℚ pos 8 ÷ 5 → (k : ℕ) → 1 ≤ k → power z (suc (suc k)) *ℚ (pos 1 ÷ factorial (suc (suc k))) ≤ℚ power z k *ℚ (pos 1 ÷ factorial k)
 two_steps z h l k m =
     let c = suc (suc k) * suc k in
     let i = pos 1 ÷ (c * factorial k) in

@@ -57,3 +57,20 @@ pub record QuarterSumsAt (n : ℕ) : Type 0 where
 
 abbrev pub QuarterSums : Type 0
 QuarterSums = FromSomeOn QuarterSumsAt
+
+-- from some n on, cos t·sin u − sin t·cos u = sin(u − t) within 2^−66, for all fractions alike; the cosine of pi·t is the sine
+-- of pi·(t + 1/2)
+abbrev pub Addition : Type 0
+Addition =
+    FromSomeOn (λ n. (t u : ℚ) →
+    abs (sine_of_turn n (t +ℚ pos 1 ÷ 2) *ℚ sine_of_turn n u -ℚ sine_of_turn n t *ℚ sine_of_turn n (u +ℚ pos 1 ÷ 2) -ℚ sine_of_turn n (u -ℚ t)) ≤ℚ pos 1 ÷ 2 ^ 66)
+
+-- the straight line through the values of f at t − h and t + h, at t + u·h
+abbrev pub chord : (ℚ → ℚ) → ℚ → ℚ → ℚ → ℚ
+chord f t h u = (pos 1 ÷ 2) *ℚ (whole 1 -ℚ u) *ℚ f (t -ℚ h) +ℚ (pos 1 ÷ 2) *ℚ (whole 1 +ℚ u) *ℚ f (t +ℚ h)
+
+-- from some n on, the approximation differs from its chords over 2·h by at most 2·pi²·h² + 2^−50
+abbrev pub SecondOrder : Type 0
+SecondOrder =
+    FromSomeOn (λ n. (t h u : ℚ) → whole 0 ≤ℚ h → h ≤ℚ pos 1 ÷ 8 → neg_ℚ (whole 1) ≤ℚ u → u ≤ℚ whole 1 →
+    abs (sine_of_turn n (t +ℚ u *ℚ h) -ℚ chord (sine_of_turn n) t h u) ≤ℚ whole 2 *ℚ (pi_sum n *ℚ pi_sum n) *ℚ (h *ℚ h) +ℚ pos 1 ÷ 2 ^ 50)

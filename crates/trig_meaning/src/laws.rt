@@ -1,6 +1,6 @@
 //! Laws of the approximations, each a function whose contract is the law. The program calls none of them.
 
-ghost use Rattle.trig_meaning.specs.Laws.{PiBetween, QuarterSums, PiecesAgree, SineIsOdd, HalfTurnNegates, WholeTurnsKeep, SineIsLipschitz, ValuesAddUp, SineFormsAreSecondCoordinates};
+ghost use Rattle.trig_meaning.specs.Laws.{PiBetween, QuarterSums, Addition, SecondOrder, PiecesAgree, SineIsOdd, HalfTurnNegates, WholeTurnsKeep, SineIsLipschitz, ValuesAddUp, SineFormsAreSecondCoordinates};
 
 /// From some n on, the approximation of pi lies between two neighbours of 60 bits, 0x3243F6A8885A308D·2^-60 and one unit of
 /// 2^-60 more, and between two of 40 bits, 0x3243F6A8885·2^-40 and one unit of 2^-40 more.
@@ -50,4 +50,17 @@ pub fn values_add_up()
 /// The value of the sine form of a formal point is the second coordinate of the point, for every approximation.
 pub fn sine_forms_are_second_coordinates()
     ensures { SineFormsAreSecondCoordinates }
+{}
+
+/// The law of addition: from some n on, `s(t + 1/2)·s(u) - s(t)·s(u + 1/2)` is within 2^-66 of `s(u - t)` for any two
+/// fractions t and u, where s is the approximation of sin(pi·t). One n serves all fractions.
+pub fn addition()
+    ensures { Addition }
+{}
+
+/// The law of second order: from some n on, the approximation of sin(pi·t) between t - h and t + h is within
+/// `2·pi²·h² + 2^-50` of the straight line through its values at both ends, for any fraction t and 0 <= h <= 1/8, where pi is
+/// the n-th approximation. One n serves all fractions.
+pub fn second_order()
+    ensures { SecondOrder }
 {}
