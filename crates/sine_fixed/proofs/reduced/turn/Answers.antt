@@ -43,7 +43,10 @@ is_answer c =
           ) = w.negative-is in
           let answer = simp to_z-of_z at raw in
           subst (IsAnswer c.args.num c.args.den) (sym answer)
-          (record { nonneg = second_nonneg c.args.den c.rem_euclid-rest.result second_piece; turned = turned_second c.args.num c.args.den c.rem_euclid-rest.result positive small is past_half second_piece }))
+          (record {
+            nonneg = second_nonneg c.args.den c.rem_euclid-rest.result second_piece;
+            turned = turned_second c.args.num c.args.den c.rem_euclid-rest.result positive small is past_half second_piece;
+          }))
       | else-rest-den+else-rest-den-2+then-rest-den-3 w ↦ (
           let past_one : c.args.den <ℤ c.rem_euclid-rest.result = below_of c.rem_euclid-rest.result c.args.den (simp to_z-of_z at w.if-rest-den-2.false) in
           let third_piece : (pos 2 *ℤ c.rem_euclid-rest.result) ≤ℤ (pos 3 *ℤ c.args.den) = at_most_of (pos 2 *ℤ c.rem_euclid-rest.result)
@@ -55,7 +58,10 @@ is_answer c =
           ) = w.negative-is in
           let answer = simp to_z-of_z at raw in
           subst (IsAnswer c.args.num c.args.den) (sym answer)
-          (record { nonneg = third_nonneg c.args.den c.rem_euclid-rest.result past_one; turned = turned_third c.args.num c.args.den c.rem_euclid-rest.result positive small is past_one third_piece }))
+          (record {
+            nonneg = third_nonneg c.args.den c.rem_euclid-rest.result past_one;
+            turned = turned_third c.args.num c.args.den c.rem_euclid-rest.result positive small is past_one third_piece;
+          }))
       | else-rest-den+else-rest-den-2+else-rest-den-3 w ↦ (
           let past_third : (pos 3 *ℤ c.args.den) <ℤ (pos 2 *ℤ c.rem_euclid-rest.result) = below_of (pos 2 *ℤ c.rem_euclid-rest.result)
           (pos 3 *ℤ c.args.den) (simp to_z-of_z at w.if-rest-den-3.false) in
@@ -67,7 +73,10 @@ is_answer c =
           ) = w.negative-is in
           let answer = simp to_z-of_z at raw in
           subst (IsAnswer c.args.num c.args.den) (sym answer)
-          (record { nonneg = fourth_nonneg c.args.den c.rem_euclid-rest.result sizes.1; turned = turned_fourth c.args.num c.args.den c.rem_euclid-rest.result positive small is past_third }))
+          (record {
+            nonneg = fourth_nonneg c.args.den c.rem_euclid-rest.result sizes.1;
+            turned = turned_fourth c.args.num c.args.den c.rem_euclid-rest.result positive small is past_third;
+          }))
     ]
 
 pub invariant_of-result : goal.invariant_of-result
@@ -100,4 +109,5 @@ returns-clause-sine c =
     let answer = is_answer c in
     let num = answer_fits c.args.num c.args.den c.if-rest-den.negative c.requires.denominator answer in
     λ n. simp to_z-of_z (sine_at n (c.args.num ÷ unsigned_abs c.args.den)
-    (record { negative = c.if-rest-den.negative.0; num = unsigned_abs c.if-rest-den.negative.1; den = unsigned_abs c.args.den }) answer.turned.wrapped_reference)
+    (record { negative = c.if-rest-den.negative.0; num = unsigned_abs c.if-rest-den.negative.1; den = unsigned_abs c.args.den })
+    answer.turned.wrapped_reference)
