@@ -45,8 +45,7 @@ is_answer c =
           subst (IsAnswer c.args.num c.args.den) (sym answer)
           (record {
             nonneg = second_nonneg c.args.den c.rem_euclid-rest.result second_piece;
-            turned = turned_second c.args.num c.args.den
-                c.rem_euclid-rest.result positive small is past_half second_piece;
+            turned = turned_second c.args.num c.args.den c.rem_euclid-rest.result positive small is past_half second_piece;
           }))
       | else-rest-den+else-rest-den-2+then-rest-den-3 w ↦ (
           let past_one : c.args.den <ℤ c.rem_euclid-rest.result = below_of c.rem_euclid-rest.result c.args.den (simp to_z-of_z at w.if-rest-den-2.false) in
@@ -61,8 +60,7 @@ is_answer c =
           subst (IsAnswer c.args.num c.args.den) (sym answer)
           (record {
             nonneg = third_nonneg c.args.den c.rem_euclid-rest.result past_one;
-            turned = turned_third c.args.num c.args.den
-                c.rem_euclid-rest.result positive small is past_one third_piece;
+            turned = turned_third c.args.num c.args.den c.rem_euclid-rest.result positive small is past_one third_piece;
           }))
       | else-rest-den+else-rest-den-2+else-rest-den-3 w ↦ (
           let past_third : (pos 3 *ℤ c.args.den) <ℤ (pos 2 *ℤ c.rem_euclid-rest.result) = below_of (pos 2 *ℤ c.rem_euclid-rest.result)
@@ -77,8 +75,7 @@ is_answer c =
           subst (IsAnswer c.args.num c.args.den) (sym answer)
           (record {
             nonneg = fourth_nonneg c.args.den c.rem_euclid-rest.result sizes.1;
-            turned = turned_fourth c.args.num c.args.den
-                c.rem_euclid-rest.result positive small is past_third;
+            turned = turned_fourth c.args.num c.args.den c.rem_euclid-rest.result positive small is past_third;
           }))
     ]
 
