@@ -31,7 +31,7 @@ abs_zero = ap abs zero ∙ abs_of_nonneg (whole 0) (whole_nonneg 0)
     zero = ring ℚ_ring [] (num 0 ⊟ num 0) (num 0) refl
 
 -- a multiple of what is at most b
-multiple_at_most : (c : ℤ) (z b : ℚ) → abs z ≤ℚ b → abs ((c ÷ 1) *ℚ z) ≤ℚ whole (unsigned_abs c) *ℚ b
+pub multiple_at_most : (c : ℤ) (z b : ℚ) → abs z ≤ℚ b → abs ((c ÷ 1) *ℚ z) ≤ℚ whole (unsigned_abs c) *ℚ b
 multiple_at_most c z b h =
     moved ℚ_ordered (sym (abs-mul (c ÷ 1) z ∙ ap (λ t. t *ℚ abs z) (abs-int c))) refl (mul_mono ℚ_ordered (whole (unsigned_abs c)) (abs z) b (whole_nonneg (unsigned_abs c)) h)
 

@@ -1,5 +1,6 @@
 pub mod Addition
 pub mod Alternating
+pub mod Coordinates
 pub mod Exponential
 pub mod FromSomeOnLaws
 pub mod Gradient

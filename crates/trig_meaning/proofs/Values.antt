@@ -29,17 +29,19 @@ is_origin d h k = by_numbers d.m d.n h k
     by_numbers (pos (suc m)) n h k = let positive = (or_parts (int_lt (pos 0) (pos (suc m))) _ h).0 in absurd (omega (arith, ints, positive))
     by_numbers (negsuc m) n h k = let positive = (or_parts (int_lt (pos 0) (pos (suc m))) _ k).0 in absurd (omega (arith, ints, positive))
 
+-- the turn of an opposite direction
+pub turn_of-neg : (d : Dir) (x y : ℚ) → turn_of (dir_neg d) x y ≡ neg_ℚ (turn_of d x y)
+turn_of-neg d x y =
+    ap₂ (λ s t. s *ℚ x +ℚ t *ℚ y) (int-neg d.m) (int-neg d.n)
+    ∙ ring₄ ℚ_ring (λ a b x y. opp a ⊠ x ⊞ opp b ⊠ y) (λ a b x y. opp (a ⊠ x ⊞ b ⊠ y)) refl (d.m ÷ 1) (d.n ÷ 1) x y
+
 module _ (n : ℕ) (x y : ℚ) where
   abbrev sine_at : Dir → ℚ
   sine_at d = sine_of_turn n (turn_of d x y)
 
   -- the sine of an opposite direction
-  sine_at-neg : (d : Dir) → sine_of_turn n (turn_of (dir_neg d) x y) ≡ neg_ℚ (sine_of_turn n (turn_of d x y))
-  sine_at-neg d =
-      ap (sine_of_turn n)
-      (ap₂ (λ s t. s *ℚ x +ℚ t *ℚ y) (int-neg d.m) (int-neg d.n)
-      ∙ ring₄ ℚ_ring (λ a b x y. opp a ⊠ x ⊞ opp b ⊠ y) (λ a b x y. opp (a ⊠ x ⊞ b ⊠ y)) refl (d.m ÷ 1) (d.n ÷ 1) x y)
-      ∙ sine_is_odd_lem n (turn_of d x y)
+  pub sine_at-neg : (d : Dir) → sine_of_turn n (turn_of (dir_neg d) x y) ≡ neg_ℚ (sine_of_turn n (turn_of d x y))
+  sine_at-neg d = ap (sine_of_turn n) (turn_of-neg d x y) ∙ sine_is_odd_lem n (turn_of d x y)
 
   -- the origin is opposite to itself, so its sine is 0
   at_origin : sine_of_turn n (turn_of zero_dir x y) ≡ whole 0

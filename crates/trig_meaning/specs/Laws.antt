@@ -2,12 +2,13 @@
 use Rattle.std.specs.Prelude.{◌≡◌, ℕ, ◌^◌, ℤ, pos}
 use Rattle.rat_core.specs.Fraction.{ℚ, ◌÷◌, whole, ◌+ℚ◌, ◌-ℚ◌, ◌*ℚ◌, neg_ℚ, ◌≤ℚ◌, abs}
 use Rattle.exp_sums.specs.declared.direction.Dir.{Dir}
-use Rattle.exp_sums.specs.FormalPoint.{FormalPoint, monomial, ◌+ₚ◌}
+use Rattle.exp_sums.specs.FormalPoint.{FormalPoint, monomial, ◌+ₚ◌, ◌*ₚ◌, conj}
+use Rattle.exp_sums.specs.Limits.{weight}
 use Rattle.exp_sums.specs.SineForm.{sine_form}
 use Rattle.trig_meaning.specs.PartialSums.{pi_sum, sine_sum, cosine_sum}
 use Rattle.trig_meaning.specs.Turn.{first_piece, second_piece, third_piece, fourth_piece, sine_of_turn}
 use Rattle.trig_meaning.specs.FromSomeOn.{FromSomeOn}
-use Rattle.trig_meaning.specs.Value.{turn_of, value_at, second_coordinate}
+use Rattle.trig_meaning.specs.Value.{turn_of, value_at, first_coordinate, second_coordinate}
 
 -- where two pieces meet, they agree: at 0 (which is 2), 1/2, 1 and 3/2
 pub record PiecesAgree : Type 0 where
@@ -39,6 +40,24 @@ pub record ValuesAddUp : Type 0 where
 -- the sine form of a point has the point's second coordinate as its value
 abbrev pub SineFormsAreSecondCoordinates : Type 0
 SineFormsAreSecondCoordinates = (n : ℕ) (p : FormalPoint) (x y : ℚ) → value_at n (sine_form p) x y ≡ second_coordinate n p x y
+
+-- the first coordinate of a single term is its second one a quarter turn further, which is 1/2 more; and that of a sum
+pub record FirstCoordinatesAddUp : Type 0 where
+  pub of_term : (n : ℕ) (c : ℤ) (d : Dir) (x y : ℚ) → first_coordinate n (monomial c d) x y ≡ (c ÷ 1) *ℚ sine_of_turn n (turn_of d x y +ℚ pos 1 ÷ 2)
+  pub of_sum : (n : ℕ) (p q : FormalPoint) (x y : ℚ) → first_coordinate n (p +ₚ q) x y ≡ first_coordinate n p x y +ℚ first_coordinate n q x y
+
+-- the conjugate of a point is its mirror image in the first axis
+pub record ConjugatesAreMirrored : Type 0 where
+  pub first : (n : ℕ) (p : FormalPoint) (x y : ℚ) → first_coordinate n (conj p) x y ≡ first_coordinate n p x y
+  pub second : (n : ℕ) (p : FormalPoint) (x y : ℚ) → second_coordinate n (conj p) x y ≡ neg_ℚ (second_coordinate n p x y)
+
+-- from some n on, the cross product of two points is the second coordinate of the conjugate of one times the other, within
+-- 2^−66 for each unit of both weights
+abbrev pub CrossProducts : Type 0
+CrossProducts =
+    FromSomeOn (λ n. (p q : FormalPoint) (x y : ℚ) →
+    abs (first_coordinate n p x y *ℚ second_coordinate n q x y -ℚ second_coordinate n p x y *ℚ first_coordinate n q x y
+    -ℚ second_coordinate n (conj p *ₚ q) x y) ≤ℚ whole (weight p) *ℚ (whole (weight q) *ℚ (pos 1 ÷ 2 ^ 66)))
 
 -- lo·2^−bits ≤ pi ≤ hi·2^−bits, for the n-th approximation of pi
 pub record PiWithin (bits : ℕ) (lo hi : ℤ) (n : ℕ) : Type 0 where

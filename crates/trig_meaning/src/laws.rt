@@ -1,6 +1,6 @@
 //! Laws of the approximations, each a function whose contract is the law. The program calls none of them.
 
-ghost use Rattle.trig_meaning.specs.Laws.{PiBetween, QuarterSums, Addition, SecondOrder, PiecesAgree, SineIsOdd, HalfTurnNegates, WholeTurnsKeep, SineIsLipschitz, ValuesAddUp, SineFormsAreSecondCoordinates};
+ghost use Rattle.trig_meaning.specs.Laws.{PiBetween, QuarterSums, Addition, SecondOrder, PiecesAgree, SineIsOdd, HalfTurnNegates, WholeTurnsKeep, SineIsLipschitz, ValuesAddUp, SineFormsAreSecondCoordinates, FirstCoordinatesAddUp, ConjugatesAreMirrored, CrossProducts};
 
 /// From some n on, the approximation of pi lies between two neighbours of 60 bits, 0x3243F6A8885A308D·2^-60 and one unit of
 /// 2^-60 more, and between two of 40 bits, 0x3243F6A8885·2^-40 and one unit of 2^-40 more.
@@ -63,4 +63,23 @@ pub fn addition()
 /// the n-th approximation. One n serves all fractions.
 pub fn second_order()
     ensures { SecondOrder }
+{}
+
+/// The first coordinate of a single term c·(m, n) at (x, y) is c·sin(pi·(mx + ny + 1/2)), which is its second coordinate a
+/// quarter turn further, and the first coordinate of a sum is the sum of the first coordinates, for every approximation.
+pub fn first_coordinates_add_up()
+    ensures { FirstCoordinatesAddUp }
+{}
+
+/// The conjugate of a formal point has the first coordinate of the point and the negative of its second coordinate, for every
+/// approximation.
+pub fn conjugates_are_mirrored()
+    ensures { ConjugatesAreMirrored }
+{}
+
+/// The cross product of two formal points p and q, which is the first coordinate of p times the second of q less the second of
+/// p times the first of q, is the second coordinate of the conjugate of p times q: from some n on it is so within 2^-66 times
+/// both weights. One n serves all points and all (x, y).
+pub fn cross_products()
+    ensures { CrossProducts }
 {}
