@@ -1,5 +1,6 @@
 -- What the constants of a scale between which the approximations of pi come to lie are themselves between.
-use Rattle.std.proofs.Common.{◌≡◌, sym, subst, subst₂, ℕ, ◌+◌, ◌*◌, ◌^◌, ◌<◌, ℤ, pos, ◌+ℤ◌, ◌*ℤ◌, ◌≤ℤ◌, arith}
+use Rattle.std.proofs.Common.{◌≡◌, sym, subst, subst₂, ℕ, ◌+◌, ◌*◌, ◌^◌, ◌<◌, ◌≤◌, ℤ, pos, ◌+ℤ◌, ◌*ℤ◌, ◌≤ℤ◌, unsigned_abs, arith}
+use Rattle.std.proofs.Math.Pow.{pow_mono}
 use Rattle.std.proofs.lemmas.Int.{ints}
 use Rattle.std.proofs.lemmas.Nat.{pow_pos}
 use Rattle.ring_solver.proofs.Certificate.{mul_mono}
@@ -34,3 +35,13 @@ pi_units bits lo hi one_unit p =
     (scaled bits (whole 5 *ℚ pi_sum n) (whole 16) (five_pi_at_most_sixteen n (omega arith))))))
     in
     (omega (arith, ints, sym one_unit), omega (arith, ints, sym one_unit))
+
+-- so they are of at most 62 bits
+pub pi_size : (bits : ℕ) (lo hi : ℤ) → bits ≤ 60 → FromSomeOn (λ n. Encloses bits (record { lo = lo; hi = hi }) (pi_sum n)) → hi ≡ lo +ℤ pos 1
+    → (unsigned_abs lo ≤ 2 ^ 62) × (unsigned_abs hi ≤ 2 ^ 62)
+pi_size bits lo hi room between next =
+    let units = pi_units bits lo hi next between in
+    let nonneg = units.0 in
+    let small = units.1 in
+    let many : 2 ^ bits ≤ 2 ^ 60 = pow_mono room in
+    (omega (arith, ints), omega (arith, ints))

@@ -20,7 +20,7 @@ use Rattle.trig_meaning.proofs.FromSomeOnLaws.{onward}
 use Rattle.directed_fixed.specs.Rounding.{IsCeiling}
 use Rattle.directed_fixed.specs.Ends.{Encloses}
 use Rattle.directed_fixed.proofs.Rounding.{product_size, rounded_not_larger}
-use Rattle.sine_fixed.proofs.Enclosed.{pi_size}
+use Rattle.directed_fixed.proofs.PiSums.{pi_size}
 use Rattle.defining_functions.specs.Functions.{IsWithinFunctionLimits}
 use Rattle.gradient_bounds.specs.Clear.{slack}
 use Rattle.gradient_bounds.specs.Neighbourhood.{threshold_of}

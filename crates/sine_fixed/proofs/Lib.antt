@@ -6,4 +6,3 @@ pub mod QuarterSquare
 pub mod Sizes
 pub mod Negative
 pub mod Sines
-pub mod Enclosed

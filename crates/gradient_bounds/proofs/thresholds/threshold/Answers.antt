@@ -2,7 +2,7 @@ use Rattle.std.proofs.Common.{unsigned_abs}
 use Rattle.std.proofs.lemmas.Int.{to_z-of_z}
 use Rattle.exp_sums.specs.Limits.{weight}
 use Rattle.exp_sums.specs.Reach.{reach}
-use Rattle.sine_fixed.proofs.Enclosed.{pi_size}
+use Rattle.directed_fixed.proofs.PiSums.{pi_size}
 use Rattle.gradient_bounds.proofs.Drifts.{IsDrift, drift_of, IsSum, sum_fits, threshold_enough, threshold_little}
 use Rattle.gradient_bounds.proofs.thresholds.threshold.Given as given
 use Rattle.gradient_bounds.proofs.thresholds.threshold.Goals as goal
