@@ -1,6 +1,6 @@
 -- Sizes of sums and products.
 use Rattle.std.proofs.Common.{refl, sym, [], ◌∷◌}
-use Rattle.ring_solver.specs.Expression.{◌⊞◌, ◌⊠◌}
+use Rattle.ring_solver.specs.Expression.{◌⊞◌}
 use Rattle.ring_solver.specs.Ordered.{le}
 use Rattle.ring_solver.proofs.Certificate.{le₄, moved}
 use Rattle.rat_core.specs.Fraction.{ℚ, whole, ◌+ℚ◌, ◌*ℚ◌, ◌≤ℚ◌, abs}

@@ -1,5 +1,6 @@
 -- The whole numbers as an ordered ring, and their products in order.
-use Rattle.std.proofs.Common.{◌≡◌, refl, ap, ℕ, ◌+◌, ◌*◌, ◌<◌, ◌≤◌, ℤ, pos, negsuc, ◌+ℤ◌, ◌*ℤ◌, neg_ℤ, ◌≤ℤ◌, ◌<ℤ◌, arith, le_of_mul-le-mul_right, mul-le-mul_right, mul-lt-mul_of_pos_right, lt_of_mul-lt-mul_right}
+use Rattle.std.proofs.Common.{◌≡◌, ℕ, ◌+◌, ◌*◌, ◌<◌, ◌≤◌, ℤ, pos, negsuc, ◌+ℤ◌, ◌*ℤ◌, ◌≤ℤ◌, ◌<ℤ◌, arith, le_of_mul-le-mul_right, mul-le-mul_right}
+use Rattle.std.proofs.Common.{mul-lt-mul_of_pos_right, lt_of_mul-lt-mul_right}
 use Rattle.std.specs.Int.Signed.{≤ℤ_refl}
 use borrow.Author.Differences.{up, down, same_in, at_most_in, below_in, le_out, lt_out, sum_is_lem, product_is}
 use Rattle.ring_solver.specs.Ordered.{OrderedRing}
@@ -48,15 +49,18 @@ pub *ℤ_mono : (a b : ℤ) (d : ℕ) → a ≤ℤ b → (a *ℤ pos d) ≤ℤ (
 pub *ℤ_mono_back : (a b : ℤ) (d : ℕ) → 0 < d → (a *ℤ pos d) ≤ℤ (b *ℤ pos d) → a ≤ℤ b
 *ℤ_mono_back a b d p h =
     at_most_in a b
-    (le_of_mul-le-mul_right (let k : (up a + down b) * d ≤ (up b + down a) * d = omega (arith, product_is a (pos d), product_is b (pos d), le_out (a *ℤ pos d) (b *ℤ pos d) h) in k) p)
+    (le_of_mul-le-mul_right (let k : (up a + down b) * d ≤ (up b + down a) * d = omega
+    (arith, product_is a (pos d), product_is b (pos d), le_out (a *ℤ pos d) (b *ℤ pos d) h) in k) p)
 
 -- the same of a strict order
 pub *ℤ_mono_strict : (a b : ℤ) (d : ℕ) → 0 < d → a <ℤ b → (a *ℤ pos d) <ℤ (b *ℤ pos d)
 *ℤ_mono_strict a b d p h =
     below_in (a *ℤ pos d) (b *ℤ pos d)
-    (let k : (up a + down b) * d < (up b + down a) * d = mul-lt-mul_of_pos_right (lt_out a b h) p in omega (arith, k, product_is a (pos d), product_is b (pos d)))
+    (let k : (up a + down b) * d < (up b + down a) * d = mul-lt-mul_of_pos_right (lt_out a b h) p in omega
+    (arith, k, product_is a (pos d), product_is b (pos d)))
 
 pub *ℤ_mono_strict_back : (a b : ℤ) (d : ℕ) → (a *ℤ pos d) <ℤ (b *ℤ pos d) → a <ℤ b
 *ℤ_mono_strict_back a b d h =
     below_in a b
-    (lt_of_mul-lt-mul_right d (let k : (up a + down b) * d < (up b + down a) * d = omega (arith, product_is a (pos d), product_is b (pos d), lt_out (a *ℤ pos d) (b *ℤ pos d) h) in k))
+    (lt_of_mul-lt-mul_right d (let k : (up a + down b) * d < (up b + down a) * d = omega
+    (arith, product_is a (pos d), product_is b (pos d), lt_out (a *ℤ pos d) (b *ℤ pos d) h) in k))

@@ -15,7 +15,7 @@ use Rattle.trig_meaning.specs.Turn.{sine_within_turn, sine_of_turn}
 use Rattle.trig_meaning.proofs.Lipschitz.{abs_swap, abs_by_way}
 use Rattle.trig_meaning.proofs.Odd.{sine_sum-neg, cosine_sum-neg}
 use Rattle.trig_meaning.proofs.PiSums.{pi_sum_nonneg, quarter_small}
-use Rattle.trig_meaning.proofs.Pieces.{half_apart, on_first, on_second, sine_is_odd_lem}
+use Rattle.trig_meaning.proofs.Pieces.{on_first, on_second, sine_is_odd_lem}
 use Rattle.trig_meaning.proofs.QuarterSums.{quarter_cosine, quarter_sine}
 use Rattle.trig_meaning.proofs.SumAddition.{sine_addition}
 use Rattle.trig_meaning.proofs.SumSizes.{cosine_sum_small, sine_sum_small}
@@ -108,10 +108,12 @@ module _ (n : ℕ) (late : 20 ≤ n) where
       let x₂ = (P z -ℚ whole 1) *ℚ C y in
       let x₃ = C z *ℚ P y in
       let first : abs (neg_ℚ x₁) ≤ℚ e =
-      moved ℚ_ordered (sym (abs-neg x₁)) refl (le_trans (abs x₁) (pos 1 ÷ 2 ^ 90) e (sine_addition n late z y (quarter_size q half_within (le_refl q)) h) rest_in_unit) in
+      moved ℚ_ordered (sym (abs-neg x₁)) refl (le_trans (abs x₁) (pos 1 ÷ 2 ^ 90) e
+      (sine_addition n late z y (quarter_size q half_within (le_refl q)) h) rest_in_unit) in
       le_trans (abs (P (z +ℚ y) -ℚ C y)) (abs (neg_ℚ x₁) +ℚ abs x₂ +ℚ abs x₃) (whole 4 *ℚ e)
       (moved ℚ_ordered
-      (ap abs (ring₅ ℚ_ring (λ a b c d f. opp (a ⊠ b ⊞ c ⊠ d ⊟ f) ⊞ (a ⊟ num 1) ⊠ b ⊞ c ⊠ d) (λ a b c d f. f ⊟ b) refl (P z) (C y) (C z) (P y) (P (z +ℚ y)))) refl
+      (ap abs (ring₅ ℚ_ring (λ a b c d f. opp (a ⊠ b ⊞ c ⊠ d ⊟ f) ⊞ (a ⊟ num 1) ⊠ b ⊞ c ⊠ d) (λ a b c d f. f ⊟ b) refl (P z) (C y) (C z) (P y)
+      (P (z +ℚ y)))) refl
       (abs_add_three (neg_ℚ x₁) x₂ x₃))
       (le₅ ℚ_ordered (λ a b c e g. a ⊞ b ⊞ c) (λ a b c e g. num 4 ⊠ e) (λ a b c e g. le a e ∷ le b (e ⊠ num 1) ∷ le c (e ⊠ g) ∷ times e g (num 2) ∷ []) refl
       (abs (neg_ℚ x₁)) (abs x₂) (abs x₃) e g (
@@ -160,7 +162,8 @@ module _ (n : ℕ) (late : 20 ≤ n) where
       (le₂ ℚ_ordered (λ v q. v ⊟ q) (λ v q. q) (λ v q. le v (num 1) ∷ same (num 1) (num 1) (q ⊠ num 2) ∷ []) refl v q (high, (sym half_twice, tt))) in
       let value : s v ≡ P (p *ℚ q -ℚ y) =
       at_second v (lt_le q v l) high
-      ∙ ap P (ring_by ℚ_ring (p ∷ v ∷ q ∷ []) (var 0 ⊠ (num 1 ⊟ var 1)) (var 0 ⊠ var 2 ⊟ var 0 ⊠ (var 1 ⊟ var 2)) (var 0) (num 1) (var 2 ⊠ num 2) refl (sym half_twice)) in
+      ∙ ap P (ring_by ℚ_ring (p ∷ v ∷ q ∷ []) (var 0 ⊠ (num 1 ⊟ var 1)) (var 0 ⊠ var 2 ⊟ var 0 ⊠ (var 1 ⊟ var 2)) (var 0) (num 1)
+      (var 2 ⊠ num 2) refl (sym half_twice)) in
       let other : P (p *ℚ q +ℚ y) ≡ P (p *ℚ v) = ap P (ring₃ ℚ_ring (λ p v q. p ⊠ q ⊞ p ⊠ (v ⊟ q)) (λ p v q. p ⊠ v) refl p v q) in
       moved ℚ_ordered (ap₂ (λ a b. abs (a -ℚ b)) other (sym value)) refl
       (le_trans _ (abs (C y -ℚ P (p *ℚ q -ℚ y)) +ℚ abs (P (p *ℚ q +ℚ y) -ℚ C y)) _ (abs_by_way (P (p *ℚ q -ℚ y)) (C y) (P (p *ℚ q +ℚ y)))
@@ -181,5 +184,6 @@ module _ (n : ℕ) (late : 20 ≤ n) where
       let sum : P (p *ℚ v) ≡ neg_ℚ (P (p *ℚ w)) = ap P (ring₂ ℚ_ring (λ p v. p ⊠ v) (λ p v. opp (p ⊠ opp v)) refl p v) ∙ sine_sum-neg n (p *ℚ w) in
       let value : s v ≡ neg_ℚ (s w) = ap s back ∙ sine_is_odd_lem n w in
       moved ℚ_ordered
-      (sym (ap₂ (λ a b. abs (a -ℚ b)) sum value ∙ ap abs (ring₂ ℚ_ring (λ a b. opp a ⊟ opp b) (λ a b. opp (a ⊟ b)) refl (P (p *ℚ w)) (s w)) ∙ abs-neg (P (p *ℚ w) -ℚ s w))) refl
+      (sym (ap₂ (λ a b. abs (a -ℚ b)) sum value ∙ ap abs (ring₂ ℚ_ring (λ a b. opp a ⊟ opp b) (λ a b. opp (a ⊟ b)) refl (P (p *ℚ w)) (s w))
+      ∙ abs-neg (P (p *ℚ w) -ℚ s w))) refl
       (sum_up w (le₁ ℚ_ordered (λ v. num 0) (λ v. opp v) (λ v. le v (num 0) ∷ []) refl v (lt_le v (whole 0) l, tt)) (negated_high v (whole 1) low)))

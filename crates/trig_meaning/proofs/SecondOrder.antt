@@ -1,10 +1,10 @@
 -- The second order of the approximations of sin(pi·t), from their law of addition: at t + v each is a combination of the values
 -- at t and at t + 1/2, whose factors are near 1 and near pi·v.
-use Rattle.std.proofs.Common.{◌≡◌, refl, sym, ap, ap₂, ◌∙◌, subst, subst₂, ℕ, ◌^◌, ◌≤◌, pos, [], ◌∷◌, arith, lit<}
+use Rattle.std.proofs.Common.{◌≡◌, refl, sym, ap, ◌∙◌, subst, subst₂, ℕ, ◌^◌, ◌≤◌, pos, [], ◌∷◌, arith, lit<}
 use Rattle.ring_solver.specs.Expression.{var, num, ◌⊞◌, ◌⊟◌, ◌⊠◌, opp}
 use Rattle.ring_solver.specs.Ordered.{le, times, same}
 use Rattle.ring_solver.proofs.Solver.{ring, ring₂, ring₃, ring₄, ring_by}
-use Rattle.ring_solver.proofs.Certificate.{le₂, le₃, le₄, certified, moved, at_most_of_same}
+use Rattle.ring_solver.proofs.Certificate.{le₂, le₄, certified, moved, at_most_of_same}
 use Rattle.rat_core.specs.Fraction.{ℚ, ◌÷◌, whole, ◌+ℚ◌, ◌-ℚ◌, ◌*ℚ◌, neg_ℚ, ◌≤ℚ◌, at_most, abs}
 use Rattle.rat_core.proofs.Laws.{ℚ_ring, ℚ_ordered, over-mul, le_trans, mul_nonneg}
 use Rattle.rat_core.proofs.Order.{whole_nonneg, over_nonneg, cancel_le, abs_le, le_abs, neg_le_abs, abs-neg, abs_add_le, abs_of_nonneg}
@@ -180,7 +180,8 @@ module _ (n : ℕ) (late : 20 ≤ n) where
         let b = neg_ℚ (C y -ℚ whole 1) in
         cancel_le 2 (lit< tt) (abs (C z -ℚ C y)) (y *ℚ y)
         (certified ℚ_ordered (abs (C z -ℚ C y) ∷ abs a ∷ abs b ∷ z ∷ y ∷ []) (var 0 ⊠ num 2) (var 4 ⊠ var 4 ⊠ num 2)
-        (times (num 2) (var 0) (var 1 ⊞ var 2) ∷ le (num 2 ⊠ var 1) (var 3 ⊠ var 3) ∷ le (num 2 ⊠ var 2) (var 4 ⊠ var 4) ∷ le (var 3 ⊠ var 3) (var 4 ⊠ var 4) ∷ []) refl (
+        (times (num 2) (var 0) (var 1 ⊞ var 2) ∷ le (num 2 ⊠ var 1) (var 3 ⊠ var 3) ∷ le (num 2 ⊠ var 2) (var 4 ⊠ var 4) ∷ le (var 3 ⊠ var 3)
+        (var 4 ⊠ var 4) ∷ []) refl (
           whole_nonneg 2,
           moved ℚ_ordered (ap abs (ring₂ ℚ_ring (λ c d. c ⊟ num 1 ⊞ opp (d ⊟ num 1)) (λ c d. c ⊟ d) refl (C z) (C y))) refl (abs_add_le a b),
           (near_one z z_small, (moved ℚ_ordered (ap (λ t. whole 2 *ℚ t) (sym (abs-neg (C y -ℚ whole 1)))) refl (near_one y y_small), (z_square, tt))),
@@ -216,20 +217,24 @@ module _ (n : ℕ) (late : 20 ≤ n) where
         let size : abs (u *ℚ h) ≤ℚ q = scaled_size u h q u_low u_high (moved ℚ_ordered (sym (abs_of_nonneg h h_low)) refl h_half) in
         let up : u *ℚ h ≤ℚ q = le_trans (u *ℚ h) (abs (u *ℚ h)) q (le_abs (u *ℚ h)) size in
         let down : neg_ℚ q ≤ℚ u *ℚ h =
-        le₂ ℚ_ordered (λ v q. opp q) (λ v q. v) (λ v q. le (opp v) q ∷ []) refl (u *ℚ h) q (le_trans (neg_ℚ (u *ℚ h)) (abs (u *ℚ h)) q (neg_le_abs (u *ℚ h)) size, tt) in
+        le₂ ℚ_ordered (λ v q. opp q) (λ v q. v) (λ v q. le (opp v) q ∷ []) refl (u *ℚ h) q
+        (le_trans (neg_ℚ (u *ℚ h)) (abs (u *ℚ h)) q (neg_le_abs (u *ℚ h)) size, tt) in
         le_trans _ (abs e₀ +ℚ abs (neg_ℚ (first_weight *ℚ e₁)) +ℚ abs (neg_ℚ (second_weight *ℚ e₂))) _
         (abs_add_three e₀ (neg_ℚ (first_weight *ℚ e₁)) (neg_ℚ (second_weight *ℚ e₂)))
-        (certified ℚ_ordered (abs e₀ ∷ abs (neg_ℚ (first_weight *ℚ e₁)) ∷ abs (neg_ℚ (second_weight *ℚ e₂)) ∷ q ∷ u ∷ near ∷ []) (var 0 ⊞ var 1 ⊞ var 2) (num 4 ⊠ var 5)
+        (certified ℚ_ordered (abs e₀ ∷ abs (neg_ℚ (first_weight *ℚ e₁)) ∷ abs (neg_ℚ (second_weight *ℚ e₂)) ∷ q ∷ u ∷ near ∷ [])
+        (var 0 ⊞ var 1 ⊞ var 2) (num 4 ⊠ var 5)
         (le (var 0) (num 2 ⊠ var 5) ∷ le (var 1) (var 3 ⊠ (num 1 ⊟ var 4) ⊠ (num 2 ⊠ var 5)) ∷ le (var 2) (var 3 ⊠ (num 1 ⊞ var 4) ⊠ (num 2 ⊠ var 5))
         ∷ same (num 2 ⊠ var 5) (var 3 ⊠ num 2) (num 1) ∷ []) refl (
           rest_small t (u *ℚ h) down up,
           (
             weighted_size first_weight e₁ b
-                (mul_nonneg q (whole 1 -ℚ u) (over_nonneg 1 2) (le₂ ℚ_ordered (λ u q. num 0) (λ u q. num 1 ⊟ u) (λ u q. le u (num 1) ∷ []) refl u q (u_high, tt)))
+                (mul_nonneg q (whole 1 -ℚ u) (over_nonneg 1 2)
+                (le₂ ℚ_ordered (λ u q. num 0) (λ u q. num 1 ⊟ u) (λ u q. le u (num 1) ∷ []) refl u q (u_high, tt)))
                 (rest_small t (neg_ℚ h) (negated_low h q h_half) (negated_high h q minus)),
             (
               weighted_size second_weight e₂ b
-                  (mul_nonneg q (whole 1 +ℚ u) (over_nonneg 1 2) (le₂ ℚ_ordered (λ u q. num 0) (λ u q. num 1 ⊞ u) (λ u q. le (opp (num 1)) u ∷ []) refl u q (u_low, tt)))
+                  (mul_nonneg q (whole 1 +ℚ u) (over_nonneg 1 2)
+                  (le₂ ℚ_ordered (λ u q. num 0) (λ u q. num 1 ⊞ u) (λ u q. le (opp (num 1)) u ∷ []) refl u q (u_low, tt)))
                   (rest_small t h minus h_half),
               (half_twice, tt),
             ),

@@ -1,12 +1,12 @@
 -- How large the sine sum and the cosine sum are, and how near to z and to 1, where z is at most 8/5 in size.
-use Rattle.std.proofs.Common.{◌≡◌, refl, sym, ap, ◌∙◌, subst₂, ℕ, zero, suc, ◌+◌, ◌*◌, ◌≤◌, pos, [], ◌∷◌, arith, lit<, lit≤, not-suc-le-zero}
-use Rattle.ring_solver.specs.Expression.{num, ◌⊞◌, ◌⊟◌, ◌⊠◌, opp}
-use Rattle.ring_solver.specs.Ordered.{le, times, same}
-use Rattle.ring_solver.proofs.Solver.{ring₁, ring₂, ring₃}
-use Rattle.ring_solver.proofs.Certificate.{le₁, le₂, le₃, le₄, moved}
-use Rattle.rat_core.specs.Fraction.{ℚ, ◌÷◌, whole, ◌+ℚ◌, ◌-ℚ◌, ◌*ℚ◌, neg_ℚ, ◌≤ℚ◌, at_most, abs}
+use Rattle.std.proofs.Common.{◌≡◌, refl, sym, ap, ◌∙◌, subst₂, ℕ, zero, suc, ◌*◌, ◌≤◌, pos, [], ◌∷◌, arith, lit<, not-suc-le-zero}
+use Rattle.ring_solver.specs.Expression.{num, ◌⊟◌, ◌⊠◌, opp}
+use Rattle.ring_solver.specs.Ordered.{times, same}
+use Rattle.ring_solver.proofs.Solver.{ring₁, ring₂}
+use Rattle.ring_solver.proofs.Certificate.{le₂, le₃, moved}
+use Rattle.rat_core.specs.Fraction.{ℚ, ◌÷◌, whole, ◌-ℚ◌, ◌*ℚ◌, neg_ℚ, ◌≤ℚ◌, at_most, abs}
 use Rattle.rat_core.proofs.Laws.{ℚ_ring, ℚ_ordered, le_trans, mul_nonneg, over-mul}
-use Rattle.rat_core.proofs.Order.{whole_nonneg, over_nonneg, abs_cases, abs_le, abs-neg, abs_of_nonneg, mul_mono_both}
+use Rattle.rat_core.proofs.Order.{whole_nonneg, over_nonneg, abs_cases, abs-neg, abs_of_nonneg, mul_mono_both}
 use Rattle.rat_core.proofs.Sizes.{abs_nonneg}
 use Rattle.trig_meaning.specs.PartialSums.{power, factorial, sine_sum, cosine_sum}
 use Rattle.trig_meaning.proofs.Alternating.{alternating, IsFalling, falling_tail, sum_alternating, between, within_first}
@@ -29,13 +29,15 @@ square_closed = record { le = tt }
 
 module _ (z : ℚ) (nonneg : whole 0 ≤ℚ z) (small : z ≤ℚ pos 8 ÷ 5) where
   square_small : z *ℚ z ≤ℚ whole 4
-  square_small = le_trans (z *ℚ z) ((pos 8 ÷ 5) *ℚ (pos 8 ÷ 5)) (whole 4) (mul_mono_both z (pos 8 ÷ 5) z (pos 8 ÷ 5) nonneg (over_nonneg 8 5) small small) square_closed
+  square_small = le_trans (z *ℚ z) ((pos 8 ÷ 5) *ℚ (pos 8 ÷ 5)) (whole 4)
+      (mul_mono_both z (pos 8 ÷ 5) z (pos 8 ÷ 5) nonneg (over_nonneg 8 5) small small) square_closed
 
   -- the terms of the cosine series fall from the second one on
   cosine_terms_fall : IsFalling (λ j. cosine_term z (suc j))
   cosine_terms_fall =
       record {
-        nonneg = λ j. mul_nonneg (power z (2 * suc j)) (pos 1 ÷ factorial (2 * suc j)) (power_nonneg z nonneg (2 * suc j)) (over_nonneg 1 (factorial (2 * suc j)));
+        nonneg = λ j. mul_nonneg (power z (2 * suc j)) (pos 1 ÷ factorial (2 * suc j)) (power_nonneg z nonneg (2 * suc j))
+            (over_nonneg 1 (factorial (2 * suc j)));
         falls = λ j.
             let now : 2 * suc j ≡ suc (suc (2 * j)) = omega arith in
             let then : 2 * suc (suc j) ≡ suc (suc (suc (suc (2 * j)))) = omega arith in
@@ -62,7 +64,8 @@ module _ (z : ℚ) (nonneg : whole 0 ≤ℚ z) (small : z ≤ℚ pos 8 ÷ 5) whe
 
       second_small : cosine_term z 1 ≤ℚ whole 2 *ℚ (whole 1 *ℚ whole 1)
       second_small =
-          le₃ ℚ_ordered (λ c s q. c) (λ c s q. num 2 ⊠ (num 1 ⊠ num 1)) (λ c s q. times q s (num 4) ∷ same (num 1) c (q ⊠ s) ∷ same (num 2) (q ⊠ num 2) (num 1) ∷ []) refl
+          le₃ ℚ_ordered (λ c s q. c) (λ c s q. num 2 ⊠ (num 1 ⊠ num 1))
+          (λ c s q. times q s (num 4) ∷ same (num 1) c (q ⊠ s) ∷ same (num 2) (q ⊠ num 2) (num 1) ∷ []) refl
           (cosine_term z 1) (z *ℚ z) (pos 1 ÷ 2) (over_nonneg 1 2, square_small, (half, (over-mul (pos 1) 2 (lit< tt), tt)))
         where
           half : cosine_term z 1 ≡ (pos 1 ÷ 2) *ℚ (z *ℚ z)
