@@ -14,7 +14,7 @@ use Rattle.trig_meaning.specs.Turn.{sine_of_turn}
 use Rattle.trig_meaning.specs.Laws.{Addition}
 use Rattle.trig_meaning.proofs.Odd.{sine_sum-neg, cosine_sum-neg}
 use Rattle.trig_meaning.proofs.Pieces.{half_turn_negates_lem, whole_turns_keep_lem}
-use Rattle.trig_meaning.proofs.Quarters.{unit, unit_nonneg, rest_in_unit, eight_fifths_small, half_twice, quarter_size, at_quarter, next_quarter, sum_at}
+use Rattle.trig_meaning.proofs.Quarters.{unit, unit_nonneg, rest_in_unit, eight_fifths_at_most_two, half_twice, quarter_size, at_quarter, next_quarter, sum_at}
 use Rattle.trig_meaning.proofs.SumAddition.{sine_addition}
 use Rattle.trig_meaning.proofs.SumSizes.{sine_sum_small}
 
@@ -131,7 +131,7 @@ module _ (n : ℕ) (late : 20 ≤ n) where
     where
       eight_eight_fifths : whole 8 *ℚ (pos 8 ÷ 5) ≤ℚ whole 16
       eight_eight_fifths = le₁ ℚ_ordered (λ g. num 8 ⊠ g) (λ g. num 16) (λ g. times (num 8) g (num 2) ∷ []) refl (pos 8 ÷ 5)
-          (whole_nonneg 8, eight_fifths_small, tt)
+          (whole_nonneg 8, eight_fifths_at_most_two, tt)
 
   -- ---- half turns and whole turns more
 

@@ -9,6 +9,7 @@ use Rattle.ring_solver.proofs.Certificate.{le₁, le₂, le₄, le₅, certified
 use Rattle.rat_core.specs.Fraction.{ℚ, ◌÷◌, whole, ◌+ℚ◌, ◌-ℚ◌, ◌*ℚ◌, neg_ℚ, ◌≤ℚ◌, ◌<ℚ◌, abs, floor, wrapped}
 use Rattle.rat_core.proofs.Laws.{ℚ_ring, ℚ_ordered, int-add, le_refl, le_trans, le_or_lt, lt_le, lt_not_le, mul_nonneg}
 use Rattle.rat_core.proofs.Order.{int_le, int_lt_back, whole_nonneg, le_abs, neg_le_abs, abs-neg, abs_add_le}
+use Rattle.rat_core.proofs.Sizes.{abs_swap, abs_by_way}
 use Rattle.rat_core.proofs.Wrapped.{wrapped_low, wrapped_high}
 use Rattle.trig_meaning.specs.PartialSums.{pi_sum, sine_sum}
 use Rattle.trig_meaning.specs.Turn.{sine_within_turn, sine_of_turn}
@@ -16,14 +17,6 @@ use Rattle.trig_meaning.specs.Laws.{SineIsLipschitz}
 use Rattle.trig_meaning.proofs.PiSums.{pi_sum_nonneg, quarter_small}
 use Rattle.trig_meaning.proofs.Pieces.{half_apart, on_first, on_second, sine_within_turn-mirrored, sine_at_zero}
 use Rattle.trig_meaning.proofs.SteepSums.{sine_sum_steep}
-
--- a distance is the same both ways
-pub abs_swap : (x y : ℚ) → abs (x -ℚ y) ≡ abs (y -ℚ x)
-abs_swap x y = sym (abs-neg (x -ℚ y)) ∙ ap abs (ring₂ ℚ_ring (λ x y. opp (x ⊟ y)) (λ x y. y ⊟ x) refl x y)
-
--- a distance by way of a third place
-pub abs_by_way : (x y z : ℚ) → abs (z -ℚ x) ≤ℚ abs (y -ℚ x) +ℚ abs (z -ℚ y)
-abs_by_way x y z = moved ℚ_ordered (ap abs (ring₃ ℚ_ring (λ x y z. y ⊟ x ⊞ (z ⊟ y)) (λ x y z. z ⊟ x) refl x y z)) refl (abs_add_le (y -ℚ x) (z -ℚ y))
 
 -- of two whole numbers one is greater by at least 1, or neither is greater
 apart : {P : Type 0} (a b : ℤ) → (a ÷ 1 +ℚ whole 1 ≤ℚ b ÷ 1 → P) → (a ÷ 1 ≤ℚ b ÷ 1 → b ÷ 1 ≤ℚ a ÷ 1 → P) → (b ÷ 1 +ℚ whole 1 ≤ℚ a ÷ 1 → P) → P

@@ -37,9 +37,9 @@ after_small : after ≤ℚ pos 8 ÷ 5
 unfolding at_most ◌÷◌
 after_small = record { le = tt }
 
-eight_fifths_small : pos 8 ÷ 5 ≤ℚ pos 16 ÷ 5
+eight_fifths_in_reach : pos 8 ÷ 5 ≤ℚ pos 16 ÷ 5
 unfolding at_most ◌÷◌
-eight_fifths_small = record { le = tt }
+eight_fifths_in_reach = record { le = tt }
 
 cosine_closed : abs (turned_sum (whole 1) (whole 0) before 29 -ℚ whole 0) +ℚ (exponential_sum after 29 -ℚ exponential_sum before 29)
     +ℚ exponential_term (pos 8 ÷ 5) 29 ≤ℚ pos 1 ÷ 2 ^ 72
@@ -79,7 +79,7 @@ near_half x y r x_small y_small h low high m long =
         (
           tail,
           (
-            exponential_later h nonneg (le_trans h (pos 8 ÷ 5) (pos 16 ÷ 5) h_small eight_fifths_small) 29 m (omega arith) long,
+            exponential_later h nonneg (le_trans h (pos 8 ÷ 5) (pos 16 ÷ 5) h_small eight_fifths_in_reach) 29 m (omega arith) long,
             (exponential_term_mono h (pos 8 ÷ 5) nonneg h_small 29, tt),
           ),
         ),

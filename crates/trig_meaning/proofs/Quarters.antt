@@ -8,11 +8,10 @@ use Rattle.ring_solver.proofs.Certificate.{le₁, le₂, le₃, le₅, moved}
 use Rattle.rat_core.specs.Fraction.{ℚ, ◌÷◌, whole, ◌+ℚ◌, ◌-ℚ◌, ◌*ℚ◌, neg_ℚ, ◌≤ℚ◌, at_most, abs}
 use Rattle.rat_core.proofs.Laws.{ℚ_ring, ℚ_ordered, over-mul, le_refl, le_trans, le_or_lt, lt_le, mul_nonneg}
 use Rattle.rat_core.proofs.Order.{le_lt_trans, whole_lt, whole_nonneg, over_nonneg, abs_le, abs-neg, abs-mul, abs_of_nonneg}
-use Rattle.rat_core.proofs.Sizes.{abs_nonneg, abs_add_three, abs_product_le}
+use Rattle.rat_core.proofs.Sizes.{negated_low, negated_high, abs_nonneg, abs_swap, abs_by_way, abs_add_three, abs_product_le}
 use Rattle.rat_core.proofs.Wrapped.{wrapped_is}
 use Rattle.trig_meaning.specs.PartialSums.{pi_sum, sine_sum, cosine_sum}
 use Rattle.trig_meaning.specs.Turn.{sine_within_turn, sine_of_turn}
-use Rattle.trig_meaning.proofs.Lipschitz.{abs_swap, abs_by_way}
 use Rattle.trig_meaning.proofs.Odd.{sine_sum-neg, cosine_sum-neg}
 use Rattle.trig_meaning.proofs.PiSums.{pi_sum_nonneg, quarter_small}
 use Rattle.trig_meaning.proofs.Pieces.{on_first, on_second, sine_is_odd_lem}
@@ -31,19 +30,13 @@ pub rest_in_unit : pos 1 ÷ 2 ^ 90 ≤ℚ unit
 unfolding at_most ◌÷◌
 rest_in_unit = record { le = tt }
 
-pub eight_fifths_small : pos 8 ÷ 5 ≤ℚ whole 2
+pub eight_fifths_at_most_two : pos 8 ÷ 5 ≤ℚ whole 2
 unfolding at_most ◌÷◌
-eight_fifths_small = record { le = tt }
+eight_fifths_at_most_two = record { le = tt }
 
 -- half of 1, twice
 pub half_twice : (pos 1 ÷ 2) *ℚ whole 2 ≡ whole 1
 half_twice = over-mul (pos 1) 2 (lit< tt)
-
-pub negated_low : (v b : ℚ) → v ≤ℚ b → neg_ℚ b ≤ℚ neg_ℚ v
-negated_low v b h = le₂ ℚ_ordered (λ v b. opp b) (λ v b. opp v) (λ v b. le v b ∷ []) refl v b (h, tt)
-
-pub negated_high : (v b : ℚ) → neg_ℚ b ≤ℚ v → neg_ℚ v ≤ℚ b
-negated_high v b h = le₂ ℚ_ordered (λ v b. opp v) (λ v b. b) (λ v b. le (opp b) v ∷ []) refl v b (h, tt)
 
 module _ (n : ℕ) (late : 20 ≤ n) where
   abbrev p : ℚ
@@ -120,7 +113,7 @@ module _ (n : ℕ) (late : 20 ≤ n) where
         first,
         (
           abs_product_le (P z -ℚ whole 1) (C y) e (whole 1) (quarter_sine n after_16) (cosine_sum_small n y h),
-          (abs_product_le (C z) (P y) e g (quarter_cosine n after_16) (sine_sum_small n y h), (unit_nonneg, eight_fifths_small, tt)),
+          (abs_product_le (C z) (P y) e g (quarter_cosine n after_16) (sine_sum_small n y h), (unit_nonneg, eight_fifths_at_most_two, tt)),
         ),
       ))
 

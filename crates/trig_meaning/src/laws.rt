@@ -1,6 +1,8 @@
 //! Laws of the approximations, each a function whose contract is the law. The program calls none of them.
 
-ghost use Rattle.trig_meaning.specs.Laws.{PiBetween, QuarterSums, Addition, SecondOrder, PiecesAgree, SineIsOdd, HalfTurnNegates, WholeTurnsKeep, SineIsLipschitz, ValuesAddUp, SineFormsAreSecondCoordinates, FirstCoordinatesAddUp, ConjugatesAreMirrored, CrossProducts};
+ghost use Rattle.trig_meaning.specs.Laws.{PiBetween, QuarterSums};
+ghost use Rattle.trig_meaning.specs.Laws.{PiecesAgree, SineIsOdd, HalfTurnNegates, WholeTurnsKeep, SineIsLipschitz, Addition, SecondOrder};
+ghost use Rattle.trig_meaning.specs.Laws.{ValuesAddUp, SineFormsAreSecondCoordinates, FirstCoordinatesAddUp, ConjugatesAreMirrored, CrossProducts};
 
 /// From some n on, the approximation of pi lies between two neighbours of 60 bits, 0x3243F6A8885A308D·2^-60 and one unit of
 /// 2^-60 more, and between two of 40 bits, 0x3243F6A8885·2^-40 and one unit of 2^-40 more.
