@@ -4,7 +4,7 @@ use Rattle.std.proofs.Math.Pow.{pow_mono}
 use Rattle.std.proofs.lemmas.Int.{ints}
 use Rattle.std.proofs.lemmas.Nat.{pow_pos}
 use Rattle.ring_solver.proofs.Certificate.{mul_mono}
-use Rattle.rat_core.specs.Fraction.{ℚ, ◌÷◌, whole, ◌*ℚ◌, ◌≤ℚ◌}
+use Rattle.rat_core.specs.Fraction.{◌÷◌, whole, ◌*ℚ◌, ◌≤ℚ◌}
 use Rattle.rat_core.proofs.Laws.{ℚ_ordered, le_trans, mul_assoc, int-mul}
 use Rattle.rat_core.proofs.Order.{whole_nonneg, int_le_back}
 use Rattle.trig_meaning.specs.PartialSums.{pi_sum}

@@ -1,21 +1,23 @@
 -- Fractions are an ordered field: quotients, and the order for certificates.
-use mathlib.Core.Quot.{Quot-set, mk, sound, ind}
-use Rattle.std.proofs.Common.{◌≡◌, refl, sym, ap, ap₂, ◌∙◌, subst, ℕ, zero, suc, ◌*◌, ◌<◌, Bool, true, false, not, T, ℤ, pos, ◌+ℤ◌, ◌-ℤ◌, ◌*ℤ◌, neg_ℤ, ◌≤ℤ◌, ◌<ℤ◌, [], ◌∷◌, arith, mul-pos, T_not}
+use mathlib.Core.Quot.{Quot-set, mk, sound}
+use Rattle.std.proofs.Common.{◌≡◌, refl, sym, ap, ap₂, ◌∙◌, subst, ℕ, zero, suc, ◌*◌, ◌<◌, Bool, true, false, not, T, ℤ, pos, ◌+ℤ◌, ◌*ℤ◌, neg_ℤ, ◌≤ℤ◌}
+use Rattle.std.proofs.Common.{◌<ℤ◌, [], ◌∷◌, arith, mul-pos, T_not}
 use Rattle.std.proofs.Math.Dec.{T_prop, not_T}
 use Rattle.std.specs.Int.Signed.{≤ℤ_refl, le_z_yes, clash_ℤ}
 use Rattle.std.specs.Prelude.{int_le}
 use Rattle.ring_solver.specs.Ordered.{OrderedRing, times}
-use Rattle.ring_solver.specs.Expression.{num, ◌⊞◌, ◌⊠◌, opp}
-use Rattle.ring_solver.proofs.Solver.{ring₂, ring₄, ring₆}
+use Rattle.ring_solver.specs.Expression.{num, ◌⊞◌, ◌⊠◌}
+use Rattle.ring_solver.proofs.Solver.{ring₂}
 use Rattle.ring_solver.proofs.Certificate.{le₄, le₆, moved, at_most_of_same}
 use mathlib.Core.HLevel.{Π_prop}
 use borrow.Author.Differences.{below_in, le_in, le_not}
 use Rattle.std.proofs.Math.IntN.{zero-*ℤ}
 use Rattle.ring_solver.proofs.Whole.{ℤ_ring, ℤ_ordered, pos_le, ≤ℤ_antisym, *ℤ_mono_back}
 use Rattle.rat_core.specs.Ratio.{Ratio}
-use Rattle.rat_core.specs.Fraction.{ℚ, ◌÷◌, whole, ◌+ℚ◌, ◌-ℚ◌, ◌*ℚ◌, neg_ℚ, at_most, ◌≤ℚ◌, ◌<ℚ◌}
+use Rattle.rat_core.specs.Fraction.{ℚ, ◌÷◌, whole, ◌+ℚ◌, ◌*ℚ◌, neg_ℚ, at_most, ◌≤ℚ◌, ◌<ℚ◌}
 pub use Rattle.rat_core.specs.Ring.{ℚ_ring, ℚ_image}
-pub use Rattle.rat_core.specs.RingLaws.{ind₁, ind₂, ind₃, add_assoc, add_comm, add-zero, add-neg, mul_assoc, mul_comm, mul-one, mul-add, int-add, int-mul, int-neg, int-sub}
+pub use Rattle.rat_core.specs.RingLaws.{ind₁, ind₂, ind₃, add_assoc, add_comm, add-zero, add-neg, mul_assoc}
+pub use Rattle.rat_core.specs.RingLaws.{mul_comm, mul-one, mul-add, int-add, int-mul, int-neg, int-sub}
 
 -- ---- division
 
@@ -131,7 +133,8 @@ pub add_mono : (z x y : ℚ) → x ≤ℚ y → z +ℚ x ≤ℚ z +ℚ y
 unfolding at_most ◌+ℚ◌
 add_mono = ind₃ (λ z x y. x ≤ℚ y → z +ℚ x ≤ℚ z +ℚ y) (λ z x y. Π_prop (λ _. le_prop (z +ℚ x) (z +ℚ y)))
     (λ c a b h. record {
-      le = (le₆ ℤ_ordered (λ n d m e k f. (k ⊠ d ⊞ n ⊠ f) ⊠ (f ⊠ e)) (λ n d m e k f. (k ⊠ e ⊞ m ⊠ f) ⊠ (f ⊠ d)) (λ n d m e k f. times (f ⊠ f) (n ⊠ e) (m ⊠ d) ∷ []) refl
+      le = (le₆ ℤ_ordered (λ n d m e k f. (k ⊠ d ⊞ n ⊠ f) ⊠ (f ⊠ e)) (λ n d m e k f. (k ⊠ e ⊞ m ⊠ f) ⊠ (f ⊠ d))
+          (λ n d m e k f. times (f ⊠ f) (n ⊠ e) (m ⊠ d) ∷ []) refl
           a.num (pos a.den) b.num (pos b.den) c.num (pos c.den) (pos_le 0 (c.den * c.den) (omega arith), le_z_yes h.le, tt)).le;
     })
 

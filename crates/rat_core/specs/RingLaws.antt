@@ -1,21 +1,12 @@
 -- Fractions are a commutative ring, and the whole numbers among them keep sums, products and negatives. What is shown of all
 -- pairs holds of all fractions (`ind₁` to `ind₃`).
 use mathlib.Core.Quot.{Quot-set, mk, sound, ind}
-use Rattle.std.proofs.Common.{◌≡◌, refl, sym, ap, ap₂, ◌∙◌, subst, ℕ, zero, suc, ◌*◌, ◌<◌, Bool, true, false, not, T, ℤ, pos, ◌+ℤ◌, ◌-ℤ◌, ◌*ℤ◌, neg_ℤ, ◌≤ℤ◌, ◌<ℤ◌, [], ◌∷◌, arith, mul-pos, T_not}
-use Rattle.std.proofs.Math.Dec.{T_prop, not_T}
-use Rattle.std.specs.Int.Signed.{≤ℤ_refl, le_z_yes, clash_ℤ}
-use Rattle.std.specs.Prelude.{int_le}
-use Rattle.ring_solver.specs.Ring.{CommutativeRing, Image}
-use Rattle.ring_solver.specs.Ordered.{OrderedRing, times}
+use Rattle.std.proofs.Common.{◌≡◌, refl, ap, ◌∙◌, ℤ, pos, ◌+ℤ◌, ◌-ℤ◌, ◌*ℤ◌, neg_ℤ}
 use Rattle.ring_solver.specs.Expression.{num, ◌⊞◌, ◌⊠◌, opp}
 use Rattle.ring_solver.proofs.Solver.{ring₂, ring₄, ring₆}
-use Rattle.ring_solver.proofs.Certificate.{le₄, le₆, moved, at_most_of_same}
-use mathlib.Core.HLevel.{Π_prop}
-use borrow.Author.Differences.{below_in, le_in, le_not}
-use Rattle.std.proofs.Math.IntN.{zero-*ℤ}
-use Rattle.ring_solver.proofs.Whole.{ℤ_ring, ℤ_ordered, pos_le, ≤ℤ_antisym, *ℤ_mono_back}
+use Rattle.ring_solver.proofs.Whole.{ℤ_ring}
 use Rattle.rat_core.specs.Ratio.{Ratio}
-use Rattle.rat_core.specs.Fraction.{ℚ, ◌÷◌, whole, ◌+ℚ◌, ◌-ℚ◌, ◌*ℚ◌, neg_ℚ, at_most, ◌≤ℚ◌, ◌<ℚ◌}
+use Rattle.rat_core.specs.Fraction.{ℚ, ◌÷◌, whole, ◌+ℚ◌, ◌-ℚ◌, ◌*ℚ◌, neg_ℚ}
 
 pub ind₁ : (P : ℚ → Type 0) → ((x : ℚ) → IsProp (P x)) → ((a : Ratio) → P (mk a)) → (x : ℚ) → P x
 ind₁ P prop f x = ind {β = P} prop f x
@@ -54,7 +45,8 @@ add-neg = ind₁ (λ x. x +ℚ neg_ℚ x ≡ whole 0) (λ x. Quot-set _ _)
 pub mul_assoc : (x y z : ℚ) → (x *ℚ y) *ℚ z ≡ x *ℚ (y *ℚ z)
 unfolding ◌*ℚ◌
 mul_assoc = ind₃ (λ x y z. (x *ℚ y) *ℚ z ≡ x *ℚ (y *ℚ z)) (λ x y z. Quot-set _ _)
-    (λ a b c. sound (ring₆ ℤ_ring (λ n d m e k f. ((n ⊠ m) ⊠ k) ⊠ (d ⊠ (e ⊠ f))) (λ n d m e k f. (n ⊠ (m ⊠ k)) ⊠ ((d ⊠ e) ⊠ f)) refl a.num (pos a.den) b.num (pos b.den) c.num (pos c.den)))
+    (λ a b c. sound (ring₆ ℤ_ring (λ n d m e k f. ((n ⊠ m) ⊠ k) ⊠ (d ⊠ (e ⊠ f))) (λ n d m e k f. (n ⊠ (m ⊠ k)) ⊠ ((d ⊠ e) ⊠ f)) refl a.num
+    (pos a.den) b.num (pos b.den) c.num (pos c.den)))
 
 pub mul_comm : (x y : ℚ) → x *ℚ y ≡ y *ℚ x
 unfolding ◌*ℚ◌

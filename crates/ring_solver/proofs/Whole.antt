@@ -1,6 +1,6 @@
 -- The whole numbers as an ordered ring, and their products in order.
-use Rattle.std.proofs.Common.{◌≡◌, refl, ap, ℕ, ◌+◌, ◌*◌, ◌<◌, ◌≤◌, ℤ, pos, negsuc, ◌+ℤ◌, ◌*ℤ◌, neg_ℤ, ◌≤ℤ◌, ◌<ℤ◌, arith, le_of_mul-le-mul_right}
-use Rattle.std.proofs.Common.{mul-le-mul_right, mul-lt-mul_of_pos_right, lt_of_mul-lt-mul_right}
+use Rattle.std.proofs.Common.{◌≡◌, ℕ, ◌+◌, ◌*◌, ◌<◌, ◌≤◌, ℤ, pos, negsuc, ◌+ℤ◌, ◌*ℤ◌, ◌≤ℤ◌, ◌<ℤ◌, arith, le_of_mul-le-mul_right, mul-le-mul_right}
+use Rattle.std.proofs.Common.{mul-lt-mul_of_pos_right, lt_of_mul-lt-mul_right}
 use Rattle.std.specs.Int.Signed.{≤ℤ_refl}
 use borrow.Author.Differences.{up, down, same_in, at_most_in, below_in, le_out, lt_out, sum_is_lem, product_is}
 use Rattle.ring_solver.specs.Ordered.{OrderedRing}

@@ -14,7 +14,7 @@ use Rattle.trig_meaning.specs.Turn.{sine_of_turn}
 use Rattle.trig_meaning.specs.Laws.{Addition}
 use Rattle.trig_meaning.proofs.Odd.{sine_sum-neg, cosine_sum-neg}
 use Rattle.trig_meaning.proofs.Pieces.{half_turn_negates_lem, whole_turns_keep_lem}
-use Rattle.trig_meaning.proofs.Quarters.{unit, unit_nonneg, rest_in_unit, eight_fifths_small, half_twice, quarter_size, at_quarter, next_quarter, sum_at}
+use Rattle.trig_meaning.proofs.Quarters.{unit, unit_nonneg, rest_in_unit, eight_fifths_at_most_two, half_twice, quarter_size, at_quarter, next_quarter, sum_at}
 use Rattle.trig_meaning.proofs.SumAddition.{sine_addition}
 use Rattle.trig_meaning.proofs.SumSizes.{sine_sum_small}
 
@@ -34,11 +34,13 @@ everywhere Q near half turns t =
     (λ after_half. le_or_lt w (whole 1 +ℚ q)
     (λ h. subst Q (ring₁ ℚ_ring (λ w. w ⊟ num 1 ⊞ num 1) (λ w. w) refl w)
     (half (w -ℚ whole 1) (near (w -ℚ whole 1)
-    (le₂ ℚ_ordered (λ w q. opp q) (λ w q. w ⊟ num 1) (λ w q. le q w ∷ same (num 1) (num 1) (q ⊠ num 2) ∷ []) refl w q (lt_le q w after_half, (sym half_twice, tt)))
+    (le₂ ℚ_ordered (λ w q. opp q) (λ w q. w ⊟ num 1) (λ w q. le q w ∷ same (num 1) (num 1) (q ⊠ num 2) ∷ []) refl w q
+    (lt_le q w after_half, (sym half_twice, tt)))
     (le₂ ℚ_ordered (λ w q. w ⊟ num 1) (λ w q. q) (λ w q. le w (num 1 ⊞ q) ∷ []) refl w q (h, tt)))))
     (λ l. subst Q (ring₁ ℚ_ring (λ w. w ⊟ num 2 ⊞ num 2 ⊠ num 1) (λ w. w) refl w)
     (turns (w -ℚ whole 2) (pos 1) (near (w -ℚ whole 2)
-    (le₂ ℚ_ordered (λ w q. opp q) (λ w q. w ⊟ num 2) (λ w q. le (num 1 ⊞ q) w ∷ same (num 1) (num 1) (q ⊠ num 2) ∷ []) refl w q (lt_le (whole 1 +ℚ q) w l, (sym half_twice, tt)))
+    (le₂ ℚ_ordered (λ w q. opp q) (λ w q. w ⊟ num 2) (λ w q. le (num 1 ⊞ q) w ∷ same (num 1) (num 1) (q ⊠ num 2) ∷ []) refl w q
+    (lt_le (whole 1 +ℚ q) w l, (sym half_twice, tt)))
     (le₂ ℚ_ordered (λ w q. w ⊟ num 2) (λ w q. q) (λ w q. le w (num 2) ∷ le (num 0) q ∷ []) refl w q (high, (over_nonneg 1 2, tt)))))))))
 
 units_small : whole 64 *ℚ unit ≤ℚ pos 1 ÷ 2 ^ 66
@@ -77,7 +79,8 @@ module _ (n : ℕ) (late : 20 ≤ n) where
       (moved ℚ_ordered
       (ap abs (ap₂ ◌-ℚ◌ (ap₂ (λ c x. P (p *ℚ u) *ℚ c +ℚ C (p *ℚ u) *ℚ x) (cosine_sum-neg n z) (sine_sum-neg n z))
       (ap P (ring₃ ℚ_ring (λ p u t. p ⊠ u ⊞ opp (p ⊠ t)) (λ p u t. p ⊠ (u ⊟ t)) refl p u t)))) refl
-      (sine_addition n late (p *ℚ u) (neg_ℚ z) (quarter_size n late u u_low u_high) (moved ℚ_ordered (sym (abs-neg z)) refl (quarter_size n late t t_low t_high))))
+      (sine_addition n late (p *ℚ u) (neg_ℚ z) (quarter_size n late u u_low u_high)
+      (moved ℚ_ordered (sym (abs-neg z)) refl (quarter_size n late t t_low t_high))))
       rest_in_unit
 
   near_zero : (t u : ℚ) → neg_ℚ q ≤ℚ t → t ≤ℚ q → neg_ℚ q ≤ℚ u → u ≤ℚ q → Adds t u
@@ -99,9 +102,11 @@ module _ (n : ℕ) (late : 20 ≤ n) where
       let x_small = sine_sum_small n (p *ℚ t) (quarter_size n late t t_low t_high) in
       let near : abs x₄ ≤ℚ whole 8 *ℚ unit =
       sum_at n late (u -ℚ t)
-      (certified ℚ_ordered (t ∷ u ∷ q ∷ []) (opp (num 1)) (var 1 ⊟ var 0) (le (opp (var 2)) (var 1) ∷ le (var 0) (var 2) ∷ same (num 1) (var 2 ⊠ num 2) (num 1) ∷ []) refl
+      (certified ℚ_ordered (t ∷ u ∷ q ∷ []) (opp (num 1)) (var 1 ⊟ var 0)
+      (le (opp (var 2)) (var 1) ∷ le (var 0) (var 2) ∷ same (num 1) (var 2 ⊠ num 2) (num 1) ∷ []) refl
       (u_low, (t_high, (half_twice, tt))))
-      (certified ℚ_ordered (t ∷ u ∷ q ∷ []) (var 1 ⊟ var 0) (num 1) (le (var 1) (var 2) ∷ le (opp (var 2)) (var 0) ∷ same (num 1) (var 2 ⊠ num 2) (num 1) ∷ []) refl
+      (certified ℚ_ordered (t ∷ u ∷ q ∷ []) (var 1 ⊟ var 0) (num 1)
+      (le (var 1) (var 2) ∷ le (opp (var 2)) (var 0) ∷ same (num 1) (var 2 ⊠ num 2) (num 1) ∷ []) refl
       (u_high, (t_low, (half_twice, tt)))) in
       subst₂ (λ y x. abs (k *ℚ y -ℚ x *ℚ l -ℚ r) ≤ℚ pos 1 ÷ 2 ^ 66) (sym (at_quarter n late u u_low u_high)) (sym (at_quarter n late t t_low t_high))
       (le_trans _ (abs (x₁ +ℚ x₃ +ℚ x₄) +ℚ abs (neg_ℚ x₂)) _
@@ -111,7 +116,8 @@ module _ (n : ℕ) (late : 20 ≤ n) where
       (var 4 ⊠ var 3 ⊟ var 2 ⊠ var 5 ⊟ var 7) refl)) refl
       (abs_add_le (x₁ +ℚ x₃ +ℚ x₄) (neg_ℚ x₂)))
       (certified ℚ_ordered (abs (x₁ +ℚ x₃ +ℚ x₄) ∷ abs (neg_ℚ x₂) ∷ abs x₁ ∷ abs x₃ ∷ abs x₄ ∷ unit ∷ g ∷ (pos 1 ÷ 2 ^ 66) ∷ []) (var 0 ⊞ var 1) (var 7)
-      (le (var 0) (var 2 ⊞ var 3 ⊞ var 4) ∷ le (var 1) (var 6 ⊠ (num 4 ⊠ var 5)) ∷ le (var 2) (num 4 ⊠ var 5 ⊠ var 6) ∷ le (var 3) (var 5) ∷ le (var 4) (num 8 ⊠ var 5)
+      (le (var 0) (var 2 ⊞ var 3 ⊞ var 4) ∷ le (var 1) (var 6 ⊠ (num 4 ⊠ var 5)) ∷ le (var 2) (num 4 ⊠ var 5 ⊠ var 6) ∷ le (var 3) (var 5) ∷ le
+      (var 4) (num 8 ⊠ var 5)
       ∷ times (var 5) (num 8 ⊠ var 6) (num 16) ∷ le (num 64 ⊠ var 5) (var 7) ∷ times (num 39) (num 0) (var 5) ∷ []) refl (
         abs_add_three x₁ x₃ x₄,
         (
@@ -124,12 +130,14 @@ module _ (n : ℕ) (late : 20 ≤ n) where
       )))
     where
       eight_eight_fifths : whole 8 *ℚ (pos 8 ÷ 5) ≤ℚ whole 16
-      eight_eight_fifths = le₁ ℚ_ordered (λ g. num 8 ⊠ g) (λ g. num 16) (λ g. times (num 8) g (num 2) ∷ []) refl (pos 8 ÷ 5) (whole_nonneg 8, eight_fifths_small, tt)
+      eight_eight_fifths = le₁ ℚ_ordered (λ g. num 8 ⊠ g) (λ g. num 16) (λ g. times (num 8) g (num 2) ∷ []) refl (pos 8 ÷ 5)
+          (whole_nonneg 8, eight_fifths_at_most_two, tt)
 
   -- ---- half turns and whole turns more
 
   -- half a turn more in t or in u turns the sign of both products and of the sine of the difference
-  half_kept : (a b c a' b' c' d : ℚ) → a' ≡ neg_ℚ a → b' ≡ neg_ℚ b → c ≡ neg_ℚ c' → abs (a *ℚ d -ℚ b -ℚ c) ≤ℚ pos 1 ÷ 2 ^ 66 → abs (a' *ℚ d -ℚ b' -ℚ c') ≤ℚ pos 1 ÷ 2 ^ 66
+  half_kept : (a b c a' b' c' d : ℚ) → a' ≡ neg_ℚ a → b' ≡ neg_ℚ b → c ≡ neg_ℚ c' → abs (a *ℚ d -ℚ b -ℚ c) ≤ℚ pos 1 ÷ 2 ^ 66
+      → abs (a' *ℚ d -ℚ b' -ℚ c') ≤ℚ pos 1 ÷ 2 ^ 66
   half_kept a b c a' b' c' d e₁ e₂ e₃ h =
       moved ℚ_ordered
       (sym (ap₂ (λ x y. abs (x *ℚ d -ℚ y -ℚ c')) e₁ e₂
@@ -156,7 +164,8 @@ module _ (n : ℕ) (late : 20 ≤ n) where
   u_half : (t u : ℚ) → Adds t u → Adds t (u +ℚ whole 1)
   u_half t u h =
       moved ℚ_ordered
-      (ap (λ x. abs (x -ℚ s t *ℚ s (u +ℚ whole 1 +ℚ q) -ℚ s (u +ℚ whole 1 -ℚ t))) (ring₂ ℚ_ring (λ x y. x ⊠ y) (λ x y. y ⊠ x) refl (s (u +ℚ whole 1)) (s (t +ℚ q)))) refl
+      (ap (λ x. abs (x -ℚ s t *ℚ s (u +ℚ whole 1 +ℚ q) -ℚ s (u +ℚ whole 1 -ℚ t)))
+      (ring₂ ℚ_ring (λ x y. x ⊠ y) (λ x y. y ⊠ x) refl (s (u +ℚ whole 1)) (s (t +ℚ q)))) refl
       (half_kept (s u) (s t *ℚ s (u +ℚ q)) (s (u -ℚ t)) (s (u +ℚ whole 1)) (s t *ℚ s (u +ℚ whole 1 +ℚ q)) (s (u +ℚ whole 1 -ℚ t)) (s (t +ℚ q))
       (half_turn_negates_lem n u)
       (ap (λ x. s t *ℚ x) (ap s (ring₂ ℚ_ring (λ u q. u ⊞ num 1 ⊞ q) (λ u q. u ⊞ q ⊞ num 1) refl u q) ∙ half_turn_negates_lem n (u +ℚ q))

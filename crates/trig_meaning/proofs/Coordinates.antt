@@ -1,10 +1,10 @@
 -- The coordinates of a formal point: they add up, the conjugate mirrors them, and the cross product of two points is the second
 -- coordinate of the conjugate of one times the other.
-use Rattle.std.proofs.Common.{◌≡◌, refl, sym, ap, ap₂, ◌∙◌, subst, ℕ, List, [], ◌∷◌, ◌^◌, ◌≤◌, ℤ, pos}
+use Rattle.std.proofs.Common.{◌≡◌, refl, sym, ap, ap₂, ◌∙◌, subst, ℕ, List, [], ◌∷◌, ◌^◌, ◌≤◌, pos}
 use Rattle.std.specs.Prelude.{unsigned_abs}
 use Rattle.ring_solver.specs.Expression.{var, num, ◌⊞◌, ◌⊟◌, ◌⊠◌, opp}
 use Rattle.ring_solver.specs.Ordered.{le}
-use Rattle.ring_solver.proofs.Solver.{ring, ring₁, ring₂, ring₃, ring₆, ring_by}
+use Rattle.ring_solver.proofs.Solver.{ring, ring₁, ring₂, ring₆, ring_by}
 use Rattle.ring_solver.proofs.Certificate.{le₅, moved, at_most_of_same}
 use Rattle.rat_core.specs.Fraction.{ℚ, ◌÷◌, whole, ◌+ℚ◌, ◌-ℚ◌, ◌*ℚ◌, neg_ℚ, ◌≤ℚ◌, abs}
 use Rattle.rat_core.specs.Ring.{ℚ_ring, ℚ_image}
@@ -111,22 +111,26 @@ module _ (n : ℕ) (late : 20 ≤ n) (x y : ℚ) where
 
   one_pair : (d e : Dir) → abs (cosine_of d *ℚ sine_of e -ℚ sine_of d *ℚ cosine_of e -ℚ sine_of (dir_sum (dir_neg d) e)) ≤ℚ near
   one_pair d e =
-      subst (λ t. abs (cosine_of d *ℚ sine_of e -ℚ sine_of d *ℚ cosine_of e -ℚ sine_of_turn n t) ≤ℚ near) (sym (turn_between d e)) (adds n late (turn_of d x y) (turn_of e x y))
+      subst (λ t. abs (cosine_of d *ℚ sine_of e -ℚ sine_of d *ℚ cosine_of e -ℚ sine_of_turn n t) ≤ℚ near) (sym (turn_between d e))
+      (adds n late (turn_of d x y) (turn_of e x y))
 
   -- one direction and a point
   one_row : (q : FormalPoint) (d : Dir)
-      → abs (total sine_of (terms q) *ℚ cosine_of d -ℚ total cosine_of (terms q) *ℚ sine_of d -ℚ total (λ e. sine_of (dir_sum (dir_neg d) e)) (terms q)) ≤ℚ whole (weight q) *ℚ near
+      → abs (total sine_of (terms q) *ℚ cosine_of d -ℚ total cosine_of (terms q) *ℚ sine_of d
+      -ℚ total (λ e. sine_of (dir_sum (dir_neg d) e)) (terms q)) ≤ℚ whole (weight q) *ℚ near
   one_row q d =
       let Y = total sine_of (terms q) in
       let X = total cosine_of (terms q) in
       let turned : Dir → ℚ = λ e. sine_of (dir_sum (dir_neg d) e) in
       moved ℚ_ordered
       (ap abs (sym (total-joined sine_of cosine_of turned (cosine_of d) (sine_of d) (terms q))
-      ∙ ap (λ s. s -ℚ total turned (terms q)) (ring ℚ_ring (cosine_of d ∷ sine_of d ∷ Y ∷ X ∷ []) (var 0 ⊠ var 2 ⊟ var 1 ⊠ var 3) (var 2 ⊠ var 0 ⊟ var 3 ⊠ var 1) refl))) refl
+      ∙ ap (λ s. s -ℚ total turned (terms q)) (ring ℚ_ring (cosine_of d ∷ sine_of d ∷ Y ∷ X ∷ []) (var 0 ⊠ var 2 ⊟ var 1 ⊠ var 3)
+      (var 2 ⊠ var 0 ⊟ var 3 ⊠ var 1) refl))) refl
       (total_size (λ e. cosine_of d *ℚ sine_of e -ℚ sine_of d *ℚ cosine_of e -ℚ turned e) near (one_pair d) (terms q))
 
   pub cross_product : (p q : FormalPoint)
-      → abs (first_coordinate n p x y *ℚ second_coordinate n q x y -ℚ second_coordinate n p x y *ℚ first_coordinate n q x y -ℚ second_coordinate n (conj p *ₚ q) x y)
+      → abs (first_coordinate n p x y *ℚ second_coordinate n q x y -ℚ second_coordinate n p x y *ℚ first_coordinate n q x y
+      -ℚ second_coordinate n (conj p *ₚ q) x y)
       ≤ℚ whole (weight p) *ℚ (whole (weight q) *ℚ near)
   cross_product p q =
       let Y = total sine_of (terms q) in
@@ -137,7 +141,8 @@ module _ (n : ℕ) (late : 20 ≤ n) (x y : ℚ) where
       moved ℚ_ordered
       (ap abs (sym (total-joined cosine_of sine_of row Y X (terms p))
       ∙ ap₂ ◌-ℚ◌
-      (ring ℚ_ring (Y ∷ X ∷ total cosine_of (terms p) ∷ total sine_of (terms p) ∷ []) (var 0 ⊠ var 2 ⊟ var 1 ⊠ var 3) (var 2 ⊠ var 0 ⊟ var 3 ⊠ var 1) refl) (sym product))) refl
+      (ring ℚ_ring (Y ∷ X ∷ total cosine_of (terms p) ∷ total sine_of (terms p) ∷ []) (var 0 ⊠ var 2 ⊟ var 1 ⊠ var 3)
+      (var 2 ⊠ var 0 ⊟ var 3 ⊠ var 1) refl) (sym product))) refl
       (total_size (λ d. Y *ℚ cosine_of d -ℚ X *ℚ sine_of d -ℚ row d) (whole (weight q) *ℚ near) (one_row q) (terms p))
 
 pub cross_products_lem : CrossProducts

@@ -4,7 +4,7 @@ use Rattle.std.proofs.Common.{◌≡◌, refl, sym, ap, ap₂, ◌∙◌, subst,
 use Rattle.ring_solver.specs.Expression.{var, num, ◌⊞◌, ◌⊟◌, ◌⊠◌}
 use Rattle.ring_solver.specs.Ordered.{le, times, same}
 use Rattle.ring_solver.proofs.Solver.{ring₁, ring₂, ring₃, ring₄, ring₅}
-use Rattle.ring_solver.proofs.Certificate.{le₃, le₄, certified, moved}
+use Rattle.ring_solver.proofs.Certificate.{le₃, certified}
 use Rattle.rat_core.specs.Fraction.{ℚ, ◌÷◌, whole, ◌+ℚ◌, ◌-ℚ◌, ◌*ℚ◌, ◌≤ℚ◌, abs}
 use Rattle.rat_core.proofs.Laws.{ℚ_ring, ℚ_ordered, int-add, over-mul, le_refl, le_trans, mul_nonneg}
 use Rattle.rat_core.proofs.Order.{whole_le, whole_nonneg, over_nonneg, over_part, cancel, cancel_le, mul_mono_both, abs_of_nonneg, abs-mul}
@@ -46,7 +46,8 @@ binomial a b (suc m) =
     (λ i j. ap (λ t. t *ℚ H i j) (whole-degree i j)
     ∙ ring₃ ℚ_ring (λ x y h. (x ⊞ y) ⊠ h) (λ x y h. x ⊠ h ⊞ y ⊠ h) refl (whole i) (whole j) (H i j)) (suc m)
     ∙ diagonal-add (λ i j. whole i *ℚ H i j) (λ i j. whole j *ℚ H i j) (suc m)
-    ∙ ap₂ ◌+ℚ◌ (ap (λ t. whole 0 *ℚ H 0 (suc m) +ℚ t) (by_first m)) (diagonal-last (λ i j. whole j *ℚ H i j) m ∙ ap (λ t. t +ℚ whole 0 *ℚ H (suc m) 0) (by_second m))
+    ∙ ap₂ ◌+ℚ◌ (ap (λ t. whole 0 *ℚ H 0 (suc m) +ℚ t) (by_first m))
+    (diagonal-last (λ i j. whole j *ℚ H i j) m ∙ ap (λ t. t +ℚ whole 0 *ℚ H (suc m) 0) (by_second m))
     ∙ ring₅ ℚ_ring (λ a b x y d. num 0 ⊠ x ⊞ a ⊠ d ⊞ (b ⊠ d ⊞ num 0 ⊠ y)) (λ a b x y d. (a ⊞ b) ⊠ d) refl a b (H 0 (suc m)) (H (suc m) 0) D
     ∙ ap (λ t. (a +ℚ b) *ℚ t) (binomial a b m)
     ∙ sym (exponential_term-next (a +ℚ b) m)

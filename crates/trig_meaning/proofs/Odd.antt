@@ -30,7 +30,8 @@ power-neg_odd z j = rw (odd_is j) (power-neg_twice z j)
 pub sine_sum-neg : (n : ℕ) (z : ℚ) → sine_sum n (neg_ℚ z) ≡ neg_ℚ (sine_sum n z)
 unfolding sine_sum
 sine_sum-neg n z =
-    sum_to-same (λ j. sign j *ℚ (power (neg_ℚ z) (2 * j + 1) *ℚ (pos 1 ÷ factorial (2 * j + 1)))) (λ j. neg_ℚ (sign j *ℚ (power z (2 * j + 1) *ℚ (pos 1 ÷ factorial (2 * j + 1)))))
+    sum_to-same (λ j. sign j *ℚ (power (neg_ℚ z) (2 * j + 1) *ℚ (pos 1 ÷ factorial (2 * j + 1))))
+    (λ j. neg_ℚ (sign j *ℚ (power z (2 * j + 1) *ℚ (pos 1 ÷ factorial (2 * j + 1)))))
     (λ j. ap (λ t. sign j *ℚ (t *ℚ (pos 1 ÷ factorial (2 * j + 1)))) (power-neg_odd z j)
     ∙ ring₃ ℚ_ring (λ s p q. s ⊠ (opp p ⊠ q)) (λ s p q. opp (s ⊠ (p ⊠ q))) refl (sign j) (power z (2 * j + 1)) (pos 1 ÷ factorial (2 * j + 1))) n
     ∙ sum_to-neg (λ j. sign j *ℚ (power z (2 * j + 1) *ℚ (pos 1 ÷ factorial (2 * j + 1)))) n

@@ -119,7 +119,8 @@ diagonal_nonneg : (f : ℕ → ℕ → ℚ) → ((i j : ℕ) → whole 0 ≤ℚ 
 diagonal_nonneg f h zero = h 0 0
 diagonal_nonneg f h (suc m) =
     moved ℚ_ordered (ring₁ ℚ_ring (λ x. num 0 ⊞ num 0) (λ x. num 0) refl (whole 0)) refl
-    (add_mono_both ℚ_ordered (whole 0) (f 0 (suc m)) (whole 0) (diagonal (λ i j. f (suc i) j) m) (h 0 (suc m)) (diagonal_nonneg (λ i j. f (suc i) j) (λ i j. h (suc i) j) m))
+    (add_mono_both ℚ_ordered (whole 0) (f 0 (suc m)) (whole 0) (diagonal (λ i j. f (suc i) j) m) (h 0 (suc m))
+    (diagonal_nonneg (λ i j. f (suc i) j) (λ i j. h (suc i) j) m))
 
 -- a square lies in the triangle of its far corner
 pub square_in_triangle : (f : ℕ → ℕ → ℚ) → ((i j : ℕ) → whole 0 ≤ℚ f i j) → (p q : ℕ) → square f p q ≤ℚ triangle f (degree p q)

@@ -1,6 +1,6 @@
 -- At half of pi the cosine sum is near 0, and the sine sum near 1: the sums of 29 terms at a fraction near half of pi are
 -- computed, and so is what is left to the later sums and to the other approximations of pi.
-use Rattle.std.proofs.Common.{◌≡◌, refl, sym, ap, ◌∙◌, ℕ, suc, ◌^◌, ◌≤◌, pos, [], ◌∷◌, arith}
+use Rattle.std.proofs.Common.{refl, sym, ap, ◌∙◌, ℕ, suc, ◌^◌, ◌≤◌, pos, [], ◌∷◌, arith}
 use Rattle.ring_solver.specs.Expression.{var, num, ◌⊞◌, ◌⊟◌, ◌⊠◌}
 use Rattle.ring_solver.specs.Ordered.{le, times}
 use Rattle.ring_solver.proofs.Solver.{ring₁, ring₄}
@@ -10,7 +10,7 @@ use Rattle.rat_core.proofs.Laws.{ℚ_ring, ℚ_ordered, le_trans}
 use Rattle.rat_core.proofs.Order.{over_nonneg, abs_of_nonneg}
 use Rattle.rat_core.proofs.Sizes.{abs_add_three}
 use Rattle.trig_meaning.specs.PartialSums.{pi_sum, sine_sum, cosine_sum}
-use Rattle.trig_meaning.specs.Laws.{QuarterSumsAt, QuarterSums}
+use Rattle.trig_meaning.specs.Laws.{QuarterSums}
 use Rattle.trig_meaning.proofs.Sums.{sum_to_at_most}
 use Rattle.trig_meaning.proofs.Alternating.{twice}
 use Rattle.trig_meaning.proofs.Odd.{odd_is}
@@ -37,9 +37,9 @@ after_small : after ≤ℚ pos 8 ÷ 5
 unfolding at_most ◌÷◌
 after_small = record { le = tt }
 
-eight_fifths_small : pos 8 ÷ 5 ≤ℚ pos 16 ÷ 5
+eight_fifths_in_reach : pos 8 ÷ 5 ≤ℚ pos 16 ÷ 5
 unfolding at_most ◌÷◌
-eight_fifths_small = record { le = tt }
+eight_fifths_in_reach = record { le = tt }
 
 cosine_closed : abs (turned_sum (whole 1) (whole 0) before 29 -ℚ whole 0) +ℚ (exponential_sum after 29 -ℚ exponential_sum before 29)
     +ℚ exponential_term (pos 8 ÷ 5) 29 ≤ℚ pos 1 ÷ 2 ^ 72
@@ -79,7 +79,7 @@ near_half x y r x_small y_small h low high m long =
         (
           tail,
           (
-            exponential_later h nonneg (le_trans h (pos 8 ÷ 5) (pos 16 ÷ 5) h_small eight_fifths_small) 29 m (omega arith) long,
+            exponential_later h nonneg (le_trans h (pos 8 ÷ 5) (pos 16 ÷ 5) h_small eight_fifths_in_reach) 29 m (omega arith) long,
             (exponential_term_mono h (pos 8 ÷ 5) nonneg h_small 29, tt),
           ),
         ),
@@ -105,7 +105,8 @@ module _ (n : ℕ) (late : 16 ≤ n) where
   pub quarter_cosine : abs (cosine_sum n half_of_pi) ≤ℚ pos 1 ÷ 2 ^ 72
   quarter_cosine =
       moved ℚ_ordered
-      (ap abs (ring₁ ℚ_ring (λ t. t ⊟ num 0) (λ t. t) refl (turned_sum (whole 1) (whole 0) half_of_pi (suc (twice n))) ∙ sym (cosine_sum-turned_sum n half_of_pi (whole 0) refl)))
+      (ap abs (ring₁ ℚ_ring (λ t. t ⊟ num 0) (λ t. t) refl (turned_sum (whole 1) (whole 0) half_of_pi (suc (twice n)))
+      ∙ sym (cosine_sum-turned_sum n half_of_pi (whole 0) refl)))
       refl (le_trans _ _ _ (near_half (whole 1) (whole 0) (whole 0) one_small zero_small half_of_pi low high (suc (twice n)) long) cosine_closed)
 
   pub quarter_sine : abs (sine_sum n half_of_pi -ℚ whole 1) ≤ℚ pos 1 ÷ 2 ^ 72

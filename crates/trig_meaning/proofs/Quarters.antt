@@ -8,14 +8,13 @@ use Rattle.ring_solver.proofs.Certificate.{le₁, le₂, le₃, le₅, moved}
 use Rattle.rat_core.specs.Fraction.{ℚ, ◌÷◌, whole, ◌+ℚ◌, ◌-ℚ◌, ◌*ℚ◌, neg_ℚ, ◌≤ℚ◌, at_most, abs}
 use Rattle.rat_core.proofs.Laws.{ℚ_ring, ℚ_ordered, over-mul, le_refl, le_trans, le_or_lt, lt_le, mul_nonneg}
 use Rattle.rat_core.proofs.Order.{le_lt_trans, whole_lt, whole_nonneg, over_nonneg, abs_le, abs-neg, abs-mul, abs_of_nonneg}
-use Rattle.rat_core.proofs.Sizes.{abs_nonneg, abs_add_three, abs_product_le}
+use Rattle.rat_core.proofs.Sizes.{negated_low, negated_high, abs_nonneg, abs_swap, abs_by_way, abs_add_three, abs_product_le}
 use Rattle.rat_core.proofs.Wrapped.{wrapped_is}
 use Rattle.trig_meaning.specs.PartialSums.{pi_sum, sine_sum, cosine_sum}
 use Rattle.trig_meaning.specs.Turn.{sine_within_turn, sine_of_turn}
-use Rattle.trig_meaning.proofs.Lipschitz.{abs_swap, abs_by_way}
 use Rattle.trig_meaning.proofs.Odd.{sine_sum-neg, cosine_sum-neg}
 use Rattle.trig_meaning.proofs.PiSums.{pi_sum_nonneg, quarter_small}
-use Rattle.trig_meaning.proofs.Pieces.{half_apart, on_first, on_second, sine_is_odd_lem}
+use Rattle.trig_meaning.proofs.Pieces.{on_first, on_second, sine_is_odd_lem}
 use Rattle.trig_meaning.proofs.QuarterSums.{quarter_cosine, quarter_sine}
 use Rattle.trig_meaning.proofs.SumAddition.{sine_addition}
 use Rattle.trig_meaning.proofs.SumSizes.{cosine_sum_small, sine_sum_small}
@@ -31,19 +30,13 @@ pub rest_in_unit : pos 1 ÷ 2 ^ 90 ≤ℚ unit
 unfolding at_most ◌÷◌
 rest_in_unit = record { le = tt }
 
-pub eight_fifths_small : pos 8 ÷ 5 ≤ℚ whole 2
+pub eight_fifths_at_most_two : pos 8 ÷ 5 ≤ℚ whole 2
 unfolding at_most ◌÷◌
-eight_fifths_small = record { le = tt }
+eight_fifths_at_most_two = record { le = tt }
 
 -- half of 1, twice
 pub half_twice : (pos 1 ÷ 2) *ℚ whole 2 ≡ whole 1
 half_twice = over-mul (pos 1) 2 (lit< tt)
-
-pub negated_low : (v b : ℚ) → v ≤ℚ b → neg_ℚ b ≤ℚ neg_ℚ v
-negated_low v b h = le₂ ℚ_ordered (λ v b. opp b) (λ v b. opp v) (λ v b. le v b ∷ []) refl v b (h, tt)
-
-pub negated_high : (v b : ℚ) → neg_ℚ b ≤ℚ v → neg_ℚ v ≤ℚ b
-negated_high v b h = le₂ ℚ_ordered (λ v b. opp v) (λ v b. b) (λ v b. le (opp b) v ∷ []) refl v b (h, tt)
 
 module _ (n : ℕ) (late : 20 ≤ n) where
   abbrev p : ℚ
@@ -108,17 +101,19 @@ module _ (n : ℕ) (late : 20 ≤ n) where
       let x₂ = (P z -ℚ whole 1) *ℚ C y in
       let x₃ = C z *ℚ P y in
       let first : abs (neg_ℚ x₁) ≤ℚ e =
-      moved ℚ_ordered (sym (abs-neg x₁)) refl (le_trans (abs x₁) (pos 1 ÷ 2 ^ 90) e (sine_addition n late z y (quarter_size q half_within (le_refl q)) h) rest_in_unit) in
+      moved ℚ_ordered (sym (abs-neg x₁)) refl (le_trans (abs x₁) (pos 1 ÷ 2 ^ 90) e
+      (sine_addition n late z y (quarter_size q half_within (le_refl q)) h) rest_in_unit) in
       le_trans (abs (P (z +ℚ y) -ℚ C y)) (abs (neg_ℚ x₁) +ℚ abs x₂ +ℚ abs x₃) (whole 4 *ℚ e)
       (moved ℚ_ordered
-      (ap abs (ring₅ ℚ_ring (λ a b c d f. opp (a ⊠ b ⊞ c ⊠ d ⊟ f) ⊞ (a ⊟ num 1) ⊠ b ⊞ c ⊠ d) (λ a b c d f. f ⊟ b) refl (P z) (C y) (C z) (P y) (P (z +ℚ y)))) refl
+      (ap abs (ring₅ ℚ_ring (λ a b c d f. opp (a ⊠ b ⊞ c ⊠ d ⊟ f) ⊞ (a ⊟ num 1) ⊠ b ⊞ c ⊠ d) (λ a b c d f. f ⊟ b) refl (P z) (C y) (C z) (P y)
+      (P (z +ℚ y)))) refl
       (abs_add_three (neg_ℚ x₁) x₂ x₃))
       (le₅ ℚ_ordered (λ a b c e g. a ⊞ b ⊞ c) (λ a b c e g. num 4 ⊠ e) (λ a b c e g. le a e ∷ le b (e ⊠ num 1) ∷ le c (e ⊠ g) ∷ times e g (num 2) ∷ []) refl
       (abs (neg_ℚ x₁)) (abs x₂) (abs x₃) e g (
         first,
         (
           abs_product_le (P z -ℚ whole 1) (C y) e (whole 1) (quarter_sine n after_16) (cosine_sum_small n y h),
-          (abs_product_le (C z) (P y) e g (quarter_cosine n after_16) (sine_sum_small n y h), (unit_nonneg, eight_fifths_small, tt)),
+          (abs_product_le (C z) (P y) e g (quarter_cosine n after_16) (sine_sum_small n y h), (unit_nonneg, eight_fifths_at_most_two, tt)),
         ),
       ))
 
@@ -160,7 +155,8 @@ module _ (n : ℕ) (late : 20 ≤ n) where
       (le₂ ℚ_ordered (λ v q. v ⊟ q) (λ v q. q) (λ v q. le v (num 1) ∷ same (num 1) (num 1) (q ⊠ num 2) ∷ []) refl v q (high, (sym half_twice, tt))) in
       let value : s v ≡ P (p *ℚ q -ℚ y) =
       at_second v (lt_le q v l) high
-      ∙ ap P (ring_by ℚ_ring (p ∷ v ∷ q ∷ []) (var 0 ⊠ (num 1 ⊟ var 1)) (var 0 ⊠ var 2 ⊟ var 0 ⊠ (var 1 ⊟ var 2)) (var 0) (num 1) (var 2 ⊠ num 2) refl (sym half_twice)) in
+      ∙ ap P (ring_by ℚ_ring (p ∷ v ∷ q ∷ []) (var 0 ⊠ (num 1 ⊟ var 1)) (var 0 ⊠ var 2 ⊟ var 0 ⊠ (var 1 ⊟ var 2)) (var 0) (num 1)
+      (var 2 ⊠ num 2) refl (sym half_twice)) in
       let other : P (p *ℚ q +ℚ y) ≡ P (p *ℚ v) = ap P (ring₃ ℚ_ring (λ p v q. p ⊠ q ⊞ p ⊠ (v ⊟ q)) (λ p v q. p ⊠ v) refl p v q) in
       moved ℚ_ordered (ap₂ (λ a b. abs (a -ℚ b)) other (sym value)) refl
       (le_trans _ (abs (C y -ℚ P (p *ℚ q -ℚ y)) +ℚ abs (P (p *ℚ q +ℚ y) -ℚ C y)) _ (abs_by_way (P (p *ℚ q -ℚ y)) (C y) (P (p *ℚ q +ℚ y)))
@@ -181,5 +177,6 @@ module _ (n : ℕ) (late : 20 ≤ n) where
       let sum : P (p *ℚ v) ≡ neg_ℚ (P (p *ℚ w)) = ap P (ring₂ ℚ_ring (λ p v. p ⊠ v) (λ p v. opp (p ⊠ opp v)) refl p v) ∙ sine_sum-neg n (p *ℚ w) in
       let value : s v ≡ neg_ℚ (s w) = ap s back ∙ sine_is_odd_lem n w in
       moved ℚ_ordered
-      (sym (ap₂ (λ a b. abs (a -ℚ b)) sum value ∙ ap abs (ring₂ ℚ_ring (λ a b. opp a ⊟ opp b) (λ a b. opp (a ⊟ b)) refl (P (p *ℚ w)) (s w)) ∙ abs-neg (P (p *ℚ w) -ℚ s w))) refl
+      (sym (ap₂ (λ a b. abs (a -ℚ b)) sum value ∙ ap abs (ring₂ ℚ_ring (λ a b. opp a ⊟ opp b) (λ a b. opp (a ⊟ b)) refl (P (p *ℚ w)) (s w))
+      ∙ abs-neg (P (p *ℚ w) -ℚ s w))) refl
       (sum_up w (le₁ ℚ_ordered (λ v. num 0) (λ v. opp v) (λ v. le v (num 0) ∷ []) refl v (lt_le v (whole 0) l, tt)) (negated_high v (whole 1) low)))

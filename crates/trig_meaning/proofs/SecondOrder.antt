@@ -1,21 +1,21 @@
 -- The second order of the approximations of sin(pi·t), from their law of addition: at t + v each is a combination of the values
 -- at t and at t + 1/2, whose factors are near 1 and near pi·v.
-use Rattle.std.proofs.Common.{◌≡◌, refl, sym, ap, ap₂, ◌∙◌, subst, subst₂, ℕ, ◌^◌, ◌≤◌, pos, [], ◌∷◌, arith, lit<}
+use Rattle.std.proofs.Common.{◌≡◌, refl, sym, ap, ◌∙◌, subst, subst₂, ℕ, ◌^◌, ◌≤◌, pos, [], ◌∷◌, arith, lit<}
 use Rattle.ring_solver.specs.Expression.{var, num, ◌⊞◌, ◌⊟◌, ◌⊠◌, opp}
 use Rattle.ring_solver.specs.Ordered.{le, times, same}
 use Rattle.ring_solver.proofs.Solver.{ring, ring₂, ring₃, ring₄, ring_by}
-use Rattle.ring_solver.proofs.Certificate.{le₂, le₃, le₄, certified, moved, at_most_of_same}
+use Rattle.ring_solver.proofs.Certificate.{le₂, le₄, certified, moved, at_most_of_same}
 use Rattle.rat_core.specs.Fraction.{ℚ, ◌÷◌, whole, ◌+ℚ◌, ◌-ℚ◌, ◌*ℚ◌, neg_ℚ, ◌≤ℚ◌, at_most, abs}
 use Rattle.rat_core.proofs.Laws.{ℚ_ring, ℚ_ordered, over-mul, le_trans, mul_nonneg}
 use Rattle.rat_core.proofs.Order.{whole_nonneg, over_nonneg, cancel_le, abs_le, le_abs, neg_le_abs, abs-neg, abs_add_le, abs_of_nonneg}
-use Rattle.rat_core.proofs.Sizes.{abs_nonneg, abs_add_three, abs_product_le}
+use Rattle.rat_core.proofs.Sizes.{negated_low, negated_high, abs_nonneg, abs_add_three, abs_product_le, abs-square, abs_scaled_le, abs_weighted_le, square_scaled_le}
 use Rattle.trig_meaning.specs.PartialSums.{pi_sum, sine_sum, cosine_sum}
 use Rattle.trig_meaning.specs.Turn.{sine_of_turn}
 use Rattle.trig_meaning.specs.Laws.{chord, SecondOrder}
 use Rattle.trig_meaning.proofs.Odd.{sine_sum-neg, cosine_sum-neg}
 use Rattle.trig_meaning.proofs.PiSums.{pi_sum_nonneg, five_pi_at_most_sixteen}
-use Rattle.trig_meaning.proofs.Quarters.{unit, unit_nonneg, eight_fifths_small, half_twice, negated_low, negated_high, at_quarter, next_quarter}
-use Rattle.trig_meaning.proofs.SumSizes.{square-abs, cosine_from_one, sine_from_line}
+use Rattle.trig_meaning.proofs.Quarters.{unit, unit_nonneg, eight_fifths_at_most_two, half_twice, at_quarter, next_quarter}
+use Rattle.trig_meaning.proofs.SumSizes.{cosine_from_one, sine_from_line}
 use Rattle.trig_meaning.proofs.Addition.{adds, sine_bounded}
 
 -- how near the law of addition is
@@ -45,27 +45,6 @@ two_fifths_small = record { le = tt }
 seventeen_closed : whole 17 *ℚ (pos 8 ÷ 5) ≤ℚ whole 30
 unfolding at_most ◌*ℚ◌ ◌÷◌
 seventeen_closed = record { le = tt }
-
--- a factor u of size at most 1 makes nothing larger
-scaled_size : (u y b : ℚ) → neg_ℚ (whole 1) ≤ℚ u → u ≤ℚ whole 1 → abs y ≤ℚ b → abs (u *ℚ y) ≤ℚ b
-scaled_size u y b low high h =
-    moved ℚ_ordered refl (ring₂ ℚ_ring (λ b c. num 1 ⊠ b) (λ b c. b) refl b b)
-    (abs_product_le u y (whole 1) b (abs_le u (whole 1) high (negated_high u (whole 1) low)) h)
-
--- a factor of at least 0
-weighted_size : (w y b : ℚ) → whole 0 ≤ℚ w → abs y ≤ℚ b → abs (neg_ℚ (w *ℚ y)) ≤ℚ w *ℚ b
-weighted_size w y b nonneg h = moved ℚ_ordered (sym (abs-neg (w *ℚ y))) refl (abs_product_le w y w b (at_most_of_same ℚ_ordered (abs_of_nonneg w nonneg)) h)
-
--- nor its square
-square_size : (u y : ℚ) → neg_ℚ (whole 1) ≤ℚ u → u ≤ℚ whole 1 → whole 0 ≤ℚ y → (u *ℚ y) *ℚ (u *ℚ y) ≤ℚ y *ℚ y
-square_size u y low high nonneg =
-    le₂ ℚ_ordered (λ u y. u ⊠ y ⊠ (u ⊠ y)) (λ u y. y ⊠ y) (λ u y. times (y ⊠ y) (num 0) ((num 1 ⊟ u) ⊠ (num 1 ⊞ u)) ∷ []) refl u y (
-      mul_nonneg y y nonneg nonneg,
-      mul_nonneg (whole 1 -ℚ u) (whole 1 +ℚ u)
-          (le₂ ℚ_ordered (λ u y. num 0) (λ u y. num 1 ⊟ u) (λ u y. le u (num 1) ∷ []) refl u y (high, tt))
-          (le₂ ℚ_ordered (λ u y. num 0) (λ u y. num 1 ⊞ u) (λ u y. le (opp (num 1)) u ∷ []) refl u y (low, tt)),
-      tt,
-    )
 
 module _ (n : ℕ) (late : 20 ≤ n) where
   abbrev p : ℚ
@@ -117,7 +96,7 @@ module _ (n : ℕ) (late : 20 ≤ n) where
         (
           abs_product_le (k -ℚ c) (s t) (whole 4 *ℚ unit) (pos 8 ÷ 5)
               (subst (λ x. abs (k -ℚ x) ≤ℚ whole 4 *ℚ unit) (even v) (next_quarter n late w w_low w_high)) (sine_bounded n late t),
-          (mul_nonneg (whole 4) unit (whole_nonneg 4) unit_nonneg, eight_fifths_small, (units_near, tt)),
+          (mul_nonneg (whole 4) unit (whole_nonneg 4) unit_nonneg, eight_fifths_at_most_two, (units_near, tt)),
         ),
       ))
 
@@ -127,7 +106,7 @@ module _ (n : ℕ) (late : 20 ≤ n) where
 
   near_line : (z : ℚ) → abs z ≤ℚ pos 2 ÷ 5 → whole 15 *ℚ abs (P z -ℚ z) ≤ℚ z *ℚ z
   near_line z small =
-      let square_nonneg = moved ℚ_ordered refl (square-abs z) (mul_nonneg (abs z) (abs z) (abs_nonneg z) (abs_nonneg z)) in
+      let square_nonneg = moved ℚ_ordered refl (abs-square z) (mul_nonneg (abs z) (abs z) (abs_nonneg z) (abs_nonneg z)) in
       cancel_le 2 (lit< tt) (whole 15 *ℚ abs (P z -ℚ z)) (z *ℚ z)
       (le₄ ℚ_ordered (λ d z a f. num 15 ⊠ d ⊠ num 2) (λ d z a f. z ⊠ z ⊠ num 2)
       (λ d z a f. times (num 5) (num 6 ⊠ d) (z ⊠ z ⊠ a) ∷ times (num 5 ⊠ (z ⊠ z)) a f ∷ same (z ⊠ z) (f ⊠ num 5) (num 2) ∷ []) refl
@@ -168,10 +147,10 @@ module _ (n : ℕ) (late : 20 ≤ n) where
         )))
 
     z_small : abs z ≤ℚ pos 2 ÷ 5
-    z_small = scaled_size u y (pos 2 ÷ 5) u_low u_high y_small
+    z_small = abs_scaled_le u y (pos 2 ÷ 5) u_low u_high y_small
 
     z_square : z *ℚ z ≤ℚ y *ℚ y
-    z_square = square_size u y u_low u_high y_nonneg
+    z_square = square_scaled_le u y u_low u_high y_nonneg
 
     -- the cosine sums at both places are near each other
     cosines_near : abs (C z -ℚ C y) ≤ℚ y *ℚ y
@@ -180,7 +159,8 @@ module _ (n : ℕ) (late : 20 ≤ n) where
         let b = neg_ℚ (C y -ℚ whole 1) in
         cancel_le 2 (lit< tt) (abs (C z -ℚ C y)) (y *ℚ y)
         (certified ℚ_ordered (abs (C z -ℚ C y) ∷ abs a ∷ abs b ∷ z ∷ y ∷ []) (var 0 ⊠ num 2) (var 4 ⊠ var 4 ⊠ num 2)
-        (times (num 2) (var 0) (var 1 ⊞ var 2) ∷ le (num 2 ⊠ var 1) (var 3 ⊠ var 3) ∷ le (num 2 ⊠ var 2) (var 4 ⊠ var 4) ∷ le (var 3 ⊠ var 3) (var 4 ⊠ var 4) ∷ []) refl (
+        (times (num 2) (var 0) (var 1 ⊞ var 2) ∷ le (num 2 ⊠ var 1) (var 3 ⊠ var 3) ∷ le (num 2 ⊠ var 2) (var 4 ⊠ var 4) ∷ le (var 3 ⊠ var 3)
+        (var 4 ⊠ var 4) ∷ []) refl (
           whole_nonneg 2,
           moved ℚ_ordered (ap abs (ring₂ ℚ_ring (λ c d. c ⊟ num 1 ⊞ opp (d ⊟ num 1)) (λ c d. c ⊟ d) refl (C z) (C y))) refl (abs_add_le a b),
           (near_one z z_small, (moved ℚ_ordered (ap (λ t. whole 2 *ℚ t) (sym (abs-neg (C y -ℚ whole 1)))) refl (near_one y y_small), (z_square, tt))),
@@ -192,7 +172,7 @@ module _ (n : ℕ) (late : 20 ≤ n) where
         let a = P z -ℚ z in
         let b = neg_ℚ (u *ℚ (P y -ℚ y)) in
         let b_small : abs b ≤ℚ abs (P y -ℚ y) =
-        moved ℚ_ordered (sym (abs-neg (u *ℚ (P y -ℚ y)))) refl (scaled_size u (P y -ℚ y) (abs (P y -ℚ y)) u_low u_high (at_most_of_same ℚ_ordered refl)) in
+        moved ℚ_ordered (sym (abs-neg (u *ℚ (P y -ℚ y)))) refl (abs_scaled_le u (P y -ℚ y) (abs (P y -ℚ y)) u_low u_high (at_most_of_same ℚ_ordered refl)) in
         certified ℚ_ordered (abs (P z -ℚ u *ℚ P y) ∷ abs a ∷ abs b ∷ abs (P y -ℚ y) ∷ z ∷ y ∷ []) (num 15 ⊠ var 0) (num 2 ⊠ (var 5 ⊠ var 5))
         (times (num 15) (var 0) (var 1 ⊞ var 2) ∷ le (num 15 ⊠ var 1) (var 4 ⊠ var 4) ∷ times (num 15) (var 2) (var 3) ∷ le (num 15 ⊠ var 3) (var 5 ⊠ var 5)
         ∷ le (var 4 ⊠ var 4) (var 5 ⊠ var 5) ∷ []) refl (
@@ -213,23 +193,27 @@ module _ (n : ℕ) (late : 20 ≤ n) where
         let b = whole 2 *ℚ near in
         let h_half : h ≤ℚ q = le_trans h (pos 1 ÷ 8) q h_high eighth_small in
         let minus : neg_ℚ q ≤ℚ h = le₂ ℚ_ordered (λ h q. opp q) (λ h q. h) (λ h q. le (num 0) h ∷ le (num 0) q ∷ []) refl h q (h_low, (over_nonneg 1 2, tt)) in
-        let size : abs (u *ℚ h) ≤ℚ q = scaled_size u h q u_low u_high (moved ℚ_ordered (sym (abs_of_nonneg h h_low)) refl h_half) in
+        let size : abs (u *ℚ h) ≤ℚ q = abs_scaled_le u h q u_low u_high (moved ℚ_ordered (sym (abs_of_nonneg h h_low)) refl h_half) in
         let up : u *ℚ h ≤ℚ q = le_trans (u *ℚ h) (abs (u *ℚ h)) q (le_abs (u *ℚ h)) size in
         let down : neg_ℚ q ≤ℚ u *ℚ h =
-        le₂ ℚ_ordered (λ v q. opp q) (λ v q. v) (λ v q. le (opp v) q ∷ []) refl (u *ℚ h) q (le_trans (neg_ℚ (u *ℚ h)) (abs (u *ℚ h)) q (neg_le_abs (u *ℚ h)) size, tt) in
+        le₂ ℚ_ordered (λ v q. opp q) (λ v q. v) (λ v q. le (opp v) q ∷ []) refl (u *ℚ h) q
+        (le_trans (neg_ℚ (u *ℚ h)) (abs (u *ℚ h)) q (neg_le_abs (u *ℚ h)) size, tt) in
         le_trans _ (abs e₀ +ℚ abs (neg_ℚ (first_weight *ℚ e₁)) +ℚ abs (neg_ℚ (second_weight *ℚ e₂))) _
         (abs_add_three e₀ (neg_ℚ (first_weight *ℚ e₁)) (neg_ℚ (second_weight *ℚ e₂)))
-        (certified ℚ_ordered (abs e₀ ∷ abs (neg_ℚ (first_weight *ℚ e₁)) ∷ abs (neg_ℚ (second_weight *ℚ e₂)) ∷ q ∷ u ∷ near ∷ []) (var 0 ⊞ var 1 ⊞ var 2) (num 4 ⊠ var 5)
+        (certified ℚ_ordered (abs e₀ ∷ abs (neg_ℚ (first_weight *ℚ e₁)) ∷ abs (neg_ℚ (second_weight *ℚ e₂)) ∷ q ∷ u ∷ near ∷ [])
+        (var 0 ⊞ var 1 ⊞ var 2) (num 4 ⊠ var 5)
         (le (var 0) (num 2 ⊠ var 5) ∷ le (var 1) (var 3 ⊠ (num 1 ⊟ var 4) ⊠ (num 2 ⊠ var 5)) ∷ le (var 2) (var 3 ⊠ (num 1 ⊞ var 4) ⊠ (num 2 ⊠ var 5))
         ∷ same (num 2 ⊠ var 5) (var 3 ⊠ num 2) (num 1) ∷ []) refl (
           rest_small t (u *ℚ h) down up,
           (
-            weighted_size first_weight e₁ b
-                (mul_nonneg q (whole 1 -ℚ u) (over_nonneg 1 2) (le₂ ℚ_ordered (λ u q. num 0) (λ u q. num 1 ⊟ u) (λ u q. le u (num 1) ∷ []) refl u q (u_high, tt)))
+            abs_weighted_le first_weight e₁ b
+                (mul_nonneg q (whole 1 -ℚ u) (over_nonneg 1 2)
+                (le₂ ℚ_ordered (λ u q. num 0) (λ u q. num 1 ⊟ u) (λ u q. le u (num 1) ∷ []) refl u q (u_high, tt)))
                 (rest_small t (neg_ℚ h) (negated_low h q h_half) (negated_high h q minus)),
             (
-              weighted_size second_weight e₂ b
-                  (mul_nonneg q (whole 1 +ℚ u) (over_nonneg 1 2) (le₂ ℚ_ordered (λ u q. num 0) (λ u q. num 1 ⊞ u) (λ u q. le (opp (num 1)) u ∷ []) refl u q (u_low, tt)))
+              abs_weighted_le second_weight e₂ b
+                  (mul_nonneg q (whole 1 +ℚ u) (over_nonneg 1 2)
+                  (le₂ ℚ_ordered (λ u q. num 0) (λ u q. num 1 ⊞ u) (λ u q. le (opp (num 1)) u ∷ []) refl u q (u_low, tt)))
                   (rest_small t h minus h_half),
               (half_twice, tt),
             ),

@@ -6,7 +6,7 @@ use Rattle.ring_solver.proofs.Solver.{ring₁}
 use Rattle.ring_solver.proofs.Certificate.{le₂, moved, add_mono_both}
 use mathlib.Core.Quot.{sound}
 use Rattle.rat_core.specs.Fraction.{ℚ, ◌÷◌, whole, ◌+ℚ◌, ◌-ℚ◌, ◌*ℚ◌, neg_ℚ, ◌≤ℚ◌, at_most, abs}
-use Rattle.rat_core.proofs.Laws.{ℚ_ring, ℚ_ordered, le_refl, le_trans}
+use Rattle.rat_core.proofs.Laws.{ℚ_ring, ℚ_ordered, le_trans}
 use Rattle.rat_core.proofs.Sizes.{abs_nonneg}
 use Rattle.trig_meaning.specs.PartialSums.{sine_sum, cosine_sum}
 use Rattle.trig_meaning.proofs.Alternating.{twice}

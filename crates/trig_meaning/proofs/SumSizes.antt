@@ -1,13 +1,13 @@
 -- How large the sine sum and the cosine sum are, and how near to z and to 1, where z is at most 8/5 in size.
-use Rattle.std.proofs.Common.{◌≡◌, refl, sym, ap, ◌∙◌, subst₂, ℕ, zero, suc, ◌+◌, ◌*◌, ◌≤◌, pos, [], ◌∷◌, arith, lit<, lit≤, not-suc-le-zero}
-use Rattle.ring_solver.specs.Expression.{num, ◌⊞◌, ◌⊟◌, ◌⊠◌, opp}
-use Rattle.ring_solver.specs.Ordered.{le, times, same}
-use Rattle.ring_solver.proofs.Solver.{ring₁, ring₂, ring₃}
-use Rattle.ring_solver.proofs.Certificate.{le₁, le₂, le₃, le₄, moved}
-use Rattle.rat_core.specs.Fraction.{ℚ, ◌÷◌, whole, ◌+ℚ◌, ◌-ℚ◌, ◌*ℚ◌, neg_ℚ, ◌≤ℚ◌, at_most, abs}
+use Rattle.std.proofs.Common.{◌≡◌, refl, sym, ap, ◌∙◌, subst₂, ℕ, zero, suc, ◌*◌, ◌≤◌, pos, [], ◌∷◌, arith, lit<, not-suc-le-zero}
+use Rattle.ring_solver.specs.Expression.{num, ◌⊟◌, ◌⊠◌, opp}
+use Rattle.ring_solver.specs.Ordered.{times, same}
+use Rattle.ring_solver.proofs.Solver.{ring₁, ring₂}
+use Rattle.ring_solver.proofs.Certificate.{le₂, le₃, moved}
+use Rattle.rat_core.specs.Fraction.{ℚ, ◌÷◌, whole, ◌-ℚ◌, ◌*ℚ◌, neg_ℚ, ◌≤ℚ◌, at_most, abs}
 use Rattle.rat_core.proofs.Laws.{ℚ_ring, ℚ_ordered, le_trans, mul_nonneg, over-mul}
-use Rattle.rat_core.proofs.Order.{whole_nonneg, over_nonneg, abs_cases, abs_le, abs-neg, abs_of_nonneg, mul_mono_both}
-use Rattle.rat_core.proofs.Sizes.{abs_nonneg}
+use Rattle.rat_core.proofs.Order.{whole_nonneg, over_nonneg, abs_cases, abs-neg, abs_of_nonneg, mul_mono_both}
+use Rattle.rat_core.proofs.Sizes.{abs_nonneg, abs-square}
 use Rattle.trig_meaning.specs.PartialSums.{power, factorial, sine_sum, cosine_sum}
 use Rattle.trig_meaning.proofs.Alternating.{alternating, IsFalling, falling_tail, sum_alternating, between, within_first}
 use Rattle.trig_meaning.proofs.Odd.{sine_sum-neg, cosine_sum-neg}
@@ -21,21 +21,23 @@ cosine_sum_alternating : (n : ℕ) (z : ℚ) → cosine_sum n z ≡ alternating 
 unfolding cosine_sum
 cosine_sum_alternating n z = sum_alternating (cosine_term z) n
 
-square_closed : (pos 8 ÷ 5) *ℚ (pos 8 ÷ 5) ≤ℚ whole 4
+square_below_four : (pos 8 ÷ 5) *ℚ (pos 8 ÷ 5) ≤ℚ whole 4
 unfolding at_most ◌*ℚ◌ ◌÷◌
-square_closed = record { le = tt }
+square_below_four = record { le = tt }
 
 -- ---- where 0 ≤ z ≤ 8/5
 
 module _ (z : ℚ) (nonneg : whole 0 ≤ℚ z) (small : z ≤ℚ pos 8 ÷ 5) where
   square_small : z *ℚ z ≤ℚ whole 4
-  square_small = le_trans (z *ℚ z) ((pos 8 ÷ 5) *ℚ (pos 8 ÷ 5)) (whole 4) (mul_mono_both z (pos 8 ÷ 5) z (pos 8 ÷ 5) nonneg (over_nonneg 8 5) small small) square_closed
+  square_small = le_trans (z *ℚ z) ((pos 8 ÷ 5) *ℚ (pos 8 ÷ 5)) (whole 4)
+      (mul_mono_both z (pos 8 ÷ 5) z (pos 8 ÷ 5) nonneg (over_nonneg 8 5) small small) square_below_four
 
   -- the terms of the cosine series fall from the second one on
   cosine_terms_fall : IsFalling (λ j. cosine_term z (suc j))
   cosine_terms_fall =
       record {
-        nonneg = λ j. mul_nonneg (power z (2 * suc j)) (pos 1 ÷ factorial (2 * suc j)) (power_nonneg z nonneg (2 * suc j)) (over_nonneg 1 (factorial (2 * suc j)));
+        nonneg = λ j. mul_nonneg (power z (2 * suc j)) (pos 1 ÷ factorial (2 * suc j)) (power_nonneg z nonneg (2 * suc j))
+            (over_nonneg 1 (factorial (2 * suc j)));
         falls = λ j.
             let now : 2 * suc j ≡ suc (suc (2 * j)) = omega arith in
             let then : 2 * suc (suc j) ≡ suc (suc (suc (suc (2 * j)))) = omega arith in
@@ -62,7 +64,8 @@ module _ (z : ℚ) (nonneg : whole 0 ≤ℚ z) (small : z ≤ℚ pos 8 ÷ 5) whe
 
       second_small : cosine_term z 1 ≤ℚ whole 2 *ℚ (whole 1 *ℚ whole 1)
       second_small =
-          le₃ ℚ_ordered (λ c s q. c) (λ c s q. num 2 ⊠ (num 1 ⊠ num 1)) (λ c s q. times q s (num 4) ∷ same (num 1) c (q ⊠ s) ∷ same (num 2) (q ⊠ num 2) (num 1) ∷ []) refl
+          le₃ ℚ_ordered (λ c s q. c) (λ c s q. num 2 ⊠ (num 1 ⊠ num 1))
+          (λ c s q. times q s (num 4) ∷ same (num 1) c (q ⊠ s) ∷ same (num 2) (q ⊠ num 2) (num 1) ∷ []) refl
           (cosine_term z 1) (z *ℚ z) (pos 1 ÷ 2) (over_nonneg 1 2, square_small, (half, (over-mul (pos 1) 2 (lit< tt), tt)))
         where
           half : cosine_term z 1 ≡ (pos 1 ÷ 2) *ℚ (z *ℚ z)
@@ -109,9 +112,6 @@ sine_line-abs n z =
     (λ _. ap abs (ap (λ t. t -ℚ neg_ℚ z) (sine_sum-neg n z) ∙ ring₂ ℚ_ring (λ s z. opp s ⊟ opp z) (λ s z. opp (s ⊟ z)) refl (sine_sum n z) z)
     ∙ abs-neg (sine_sum n z -ℚ z))
 
-pub square-abs : (z : ℚ) → abs z *ℚ abs z ≡ z *ℚ z
-square-abs z = abs_cases (λ a. a *ℚ a ≡ z *ℚ z) z (λ _. refl) (λ _. ring₁ ℚ_ring (λ z. opp z ⊠ opp z) (λ z. z ⊠ z) refl z)
-
 module _ (n : ℕ) (z : ℚ) (small : abs z ≤ℚ pos 8 ÷ 5) where
   pub cosine_sum_small : abs (cosine_sum n z) ≤ℚ whole 1
   cosine_sum_small = moved ℚ_ordered (ap abs (cosine_sum-abs n z)) refl (cosine_small (abs z) (abs_nonneg z) small n)
@@ -122,9 +122,9 @@ module _ (n : ℕ) (z : ℚ) (small : abs z ≤ℚ pos 8 ÷ 5) where
 pub cosine_from_one : (n : ℕ) → 1 ≤ n → (z : ℚ) → abs z ≤ℚ pos 8 ÷ 5 → whole 2 *ℚ abs (cosine_sum n z -ℚ whole 1) ≤ℚ z *ℚ z
 cosine_from_one zero h z small = absurd (not-suc-le-zero h)
 cosine_from_one (suc n) h z small =
-    moved ℚ_ordered (ap (λ t. whole 2 *ℚ abs (t -ℚ whole 1)) (cosine_sum-abs (suc n) z)) (square-abs z) (cosine_from_one_up (abs z) (abs_nonneg z) small n)
+    moved ℚ_ordered (ap (λ t. whole 2 *ℚ abs (t -ℚ whole 1)) (cosine_sum-abs (suc n) z)) (abs-square z) (cosine_from_one_up (abs z) (abs_nonneg z) small n)
 
 pub sine_from_line : (n : ℕ) → 1 ≤ n → (z : ℚ) → abs z ≤ℚ pos 8 ÷ 5 → whole 6 *ℚ abs (sine_sum n z -ℚ z) ≤ℚ z *ℚ z *ℚ abs z
 sine_from_line zero h z small = absurd (not-suc-le-zero h)
 sine_from_line (suc n) h z small =
-    moved ℚ_ordered (ap (λ t. whole 6 *ℚ t) (sine_line-abs (suc n) z)) (ap (λ t. t *ℚ abs z) (square-abs z)) (sine_from_line_up (abs z) (abs_nonneg z) small n)
+    moved ℚ_ordered (ap (λ t. whole 6 *ℚ t) (sine_line-abs (suc n) z)) (ap (λ t. t *ℚ abs z) (abs-square z)) (sine_from_line_up (abs z) (abs_nonneg z) small n)

@@ -3,7 +3,7 @@ use Rattle.std.proofs.Common.{◌≡◌, refl, sym, ap, ap₂, ◌∙◌, ℕ, z
 use Rattle.ring_solver.specs.Expression.{num, ◌⊞◌, ◌⊟◌, ◌⊠◌, opp}
 use Rattle.ring_solver.specs.Ordered.{le}
 use Rattle.ring_solver.proofs.Solver.{ring₁, ring₂, ring₃, ring₄}
-use Rattle.ring_solver.proofs.Certificate.{le₃, le₄, moved, add_mono_both, at_most_of_same}
+use Rattle.ring_solver.proofs.Certificate.{le₃, moved, add_mono_both, at_most_of_same}
 use Rattle.rat_core.specs.Fraction.{ℚ, whole, ◌+ℚ◌, ◌-ℚ◌, ◌*ℚ◌, neg_ℚ, ◌≤ℚ◌, abs}
 use Rattle.rat_core.proofs.Laws.{ℚ_ring, ℚ_ordered, le_refl, le_trans}
 use Rattle.rat_core.proofs.Order.{abs_of_nonneg, abs_add_le}
@@ -13,7 +13,8 @@ use Rattle.trig_meaning.specs.PartialSums.{sum_to}
 pub sum_to-first : (f : ℕ → ℚ) (n : ℕ) → sum_to f (suc n) ≡ f 0 +ℚ sum_to (λ j. f (suc j)) n
 sum_to-first f zero = refl
 sum_to-first f (suc n) =
-    ap (λ t. t +ℚ f (suc (suc n))) (sum_to-first f n) ∙ ring₃ ℚ_ring (λ x y z. (x ⊞ y) ⊞ z) (λ x y z. x ⊞ (y ⊞ z)) refl (f 0) (sum_to (λ j. f (suc j)) n) (f (suc (suc n)))
+    ap (λ t. t +ℚ f (suc (suc n))) (sum_to-first f n) ∙ ring₃ ℚ_ring (λ x y z. (x ⊞ y) ⊞ z) (λ x y z. x ⊞ (y ⊞ z)) refl (f 0) (sum_to
+    (λ j. f (suc j)) n) (f (suc (suc n)))
 
 -- sums of equal terms
 pub sum_to-same : (f g : ℕ → ℚ) → ((j : ℕ) → f j ≡ g j) → (n : ℕ) → sum_to f n ≡ sum_to g n
@@ -22,7 +23,8 @@ sum_to-same f g h (suc n) = ap₂ ◌+ℚ◌ (sum_to-same f g h n) (h (suc n))
 
 pub sum_to-neg : (f : ℕ → ℚ) (n : ℕ) → sum_to (λ j. neg_ℚ (f j)) n ≡ neg_ℚ (sum_to f n)
 sum_to-neg f zero = refl
-sum_to-neg f (suc n) = ap (λ t. t +ℚ neg_ℚ (f (suc n))) (sum_to-neg f n) ∙ ring₂ ℚ_ring (λ x y. opp x ⊞ opp y) (λ x y. opp (x ⊞ y)) refl (sum_to f n) (f (suc n))
+sum_to-neg f (suc n) = ap (λ t. t +ℚ neg_ℚ (f (suc n))) (sum_to-neg f n)
+    ∙ ring₂ ℚ_ring (λ x y. opp x ⊞ opp y) (λ x y. opp (x ⊞ y)) refl (sum_to f n) (f (suc n))
 
 -- termwise
 pub sum_to-difference : (f g : ℕ → ℚ) (n : ℕ) → sum_to f n -ℚ sum_to g n ≡ sum_to (λ j. f j -ℚ g j) n

@@ -1,19 +1,20 @@
 -- Sums of the terms z^k / k! with coefficients that go round x, y, −x, −y. With 0, 1 it is the sine sum, and with 1, 0 the
 -- cosine sum. Two such sums multiply as the sine of a sum does, up to the rest of one exponential series.
-use Rattle.std.proofs.Common.{◌≡◌, refl, sym, ap, ap₂, ◌∙◌, ℕ, zero, suc, ◌+◌, ◌*◌, ◌≤◌, pos, [], ◌∷◌, arith}
+use Rattle.std.proofs.Common.{◌≡◌, refl, sym, ap, ap₂, ◌∙◌, ℕ, zero, suc, ◌+◌, ◌*◌, ◌≤◌, [], ◌∷◌, arith}
 use Rattle.ring_solver.specs.Expression.{var, num, ◌⊞◌, ◌⊟◌, ◌⊠◌, opp}
 use Rattle.ring_solver.specs.Ordered.{le, times}
 use Rattle.ring_solver.proofs.Solver.{ring, ring₁, ring₂, ring₃, ring₄}
 use Rattle.ring_solver.proofs.Certificate.{le₂, le₃, moved, at_most_of_same}
-use Rattle.rat_core.specs.Fraction.{ℚ, ◌÷◌, whole, ◌+ℚ◌, ◌-ℚ◌, ◌*ℚ◌, neg_ℚ, ◌≤ℚ◌, abs}
+use Rattle.rat_core.specs.Fraction.{ℚ, whole, ◌+ℚ◌, ◌-ℚ◌, ◌*ℚ◌, neg_ℚ, ◌≤ℚ◌, abs}
 use Rattle.rat_core.proofs.Laws.{ℚ_ring, ℚ_ordered, le_refl, le_trans, mul_nonneg}
 use Rattle.rat_core.proofs.Order.{whole_nonneg, difference_nonneg, abs_of_nonneg, abs-neg, abs-mul}
 use Rattle.rat_core.proofs.Sizes.{abs_nonneg}
-use Rattle.trig_meaning.specs.PartialSums.{sum_to, sign, power, factorial, sine_sum, cosine_sum}
+use Rattle.trig_meaning.specs.PartialSums.{sum_to, sign, sine_sum, cosine_sum}
 use Rattle.trig_meaning.proofs.Sums.{sum_to-same, sum_to-difference, sum_to_size, tail_at_most}
 use Rattle.trig_meaning.proofs.Alternating.{twice}
 use Rattle.trig_meaning.proofs.Odd.{even_is, odd_is}
-use Rattle.trig_meaning.proofs.Products.{degree, diagonal, triangle, square, le_degree, diagonal-level, square-same, square-add, square-product, corner_at_most, square_in_triangle}
+use Rattle.trig_meaning.proofs.Products.{degree, diagonal, triangle, square, diagonal-level, square-same, square-add, square-product, corner_at_most}
+use Rattle.trig_meaning.proofs.Products.{square_in_triangle}
 use Rattle.trig_meaning.proofs.Exponential.{exponential_term, exponential_sum, binomial, exponential_term_nonneg, exponential_term_mono, abs-exponential_term}
 
 -- ---- the coefficients
@@ -70,7 +71,8 @@ in_pairs f (suc n) =
     (sum_to (λ j. f (twice j) +ℚ f (suc (twice j))) n) (f (suc (suc (twice n)))) (f (suc (suc (suc (twice n)))))
 
 -- the coefficients x, y in pairs
-pairs : (x y z : ℚ) (n : ℕ) → sum_to (λ j. sign j *ℚ (x *ℚ exponential_term z (twice j) +ℚ y *ℚ exponential_term z (suc (twice j)))) n ≡ turned_sum x y z (suc (twice n))
+pairs : (x y z : ℚ) (n : ℕ) → sum_to (λ j. sign j *ℚ (x *ℚ exponential_term z (twice j)
+    +ℚ y *ℚ exponential_term z (suc (twice j)))) n ≡ turned_sum x y z (suc (twice n))
 unfolding turned_sum
 pairs x y z n =
     sum_to-same (λ j. sign j *ℚ (x *ℚ exponential_term z (twice j) +ℚ y *ℚ exponential_term z (suc (twice j))))

@@ -22,7 +22,8 @@ use Rattle.trig_meaning.proofs.Pieces.{sine_is_odd_lem}
 is_origin : (d : Dir) → is_upper d ≡ false → is_upper (dir_neg d) ≡ false → d ≡ zero_dir
 is_origin d h k = by_numbers d.m d.n h k
   where
-    by_numbers : (m n : ℤ) → is_upper (record { m = m; n = n }) ≡ false → is_upper (record { m = neg_ℤ m; n = neg_ℤ n }) ≡ false → ◌≡◌ {A = Dir} (record { m = m; n = n }) zero_dir
+    by_numbers : (m n : ℤ) → is_upper (record { m = m; n = n }) ≡ false → is_upper (record { m = neg_ℤ m; n = neg_ℤ n }) ≡ false
+        → ◌≡◌ {A = Dir} (record { m = m; n = n }) zero_dir
     by_numbers (pos zero) (pos zero) h k = refl
     by_numbers (pos zero) (pos (suc n)) h k = absurd (omega (arith, ints, h))
     by_numbers (pos zero) (negsuc n) h k = absurd (omega (arith, ints, k))
@@ -51,9 +52,11 @@ module _ (n : ℕ) (x y : ℚ) where
 
   value_at-sine_form : (p : FormalPoint) → value_at n (sine_form p) x y ≡ second_coordinate n p x y
   value_at-sine_form p =
-      weigh-sine_form ℚ_ring ℚ_image sine_at p ∙ weigh_same ℚ_ring ℚ_image (on_half ℚ_ring ℚ_image sine_at) sine_at (λ d. by_tests d (is_upper d) (is_upper (dir_neg d)) refl refl) p
+      weigh-sine_form ℚ_ring ℚ_image sine_at p ∙ weigh_same ℚ_ring ℚ_image (on_half ℚ_ring ℚ_image sine_at) sine_at (λ d. by_tests d (is_upper d)
+      (is_upper (dir_neg d)) refl refl) p
     where
-      by_tests : (d : Dir) (a b : Bool) → is_upper d ≡ a → is_upper (dir_neg d) ≡ b → (if a then sine_at d else (if b then neg_ℚ (sine_at (dir_neg d)) else whole 0)) ≡ sine_at d
+      by_tests : (d : Dir) (a b : Bool) → is_upper d ≡ a → is_upper (dir_neg d) ≡ b
+          → (if a then sine_at d else (if b then neg_ℚ (sine_at (dir_neg d)) else whole 0)) ≡ sine_at d
       by_tests d true b h k = refl
       by_tests d false true h k = ap neg_ℚ (sine_at-neg d) ∙ ring₁ ℚ_ring (λ x. opp (opp x)) (λ x. x) refl (sine_at d)
       by_tests d false false h k = sym (ap sine_at (is_origin d h k) ∙ at_origin)

@@ -1,6 +1,8 @@
 //! Laws of the approximations, each a function whose contract is the law. The program calls none of them.
 
-ghost use Rattle.trig_meaning.specs.Laws.{PiBetween, QuarterSums, Addition, SecondOrder, PiecesAgree, SineIsOdd, HalfTurnNegates, WholeTurnsKeep, SineIsLipschitz, ValuesAddUp, SineFormsAreSecondCoordinates, FirstCoordinatesAddUp, ConjugatesAreMirrored, CrossProducts};
+ghost use Rattle.trig_meaning.specs.Laws.{PiBetween, QuarterSums};
+ghost use Rattle.trig_meaning.specs.Laws.{PiecesAgree, SineIsOdd, HalfTurnNegates, WholeTurnsKeep, SineIsLipschitz, Addition, SecondOrder};
+ghost use Rattle.trig_meaning.specs.Laws.{ValuesAddUp, SineFormsAreSecondCoordinates, FirstCoordinatesAddUp, ConjugatesAreMirrored, CrossProducts};
 
 /// From some n on, the approximation of pi lies between two neighbours of 60 bits, 0x3243F6A8885A308D·2^-60 and one unit of
 /// 2^-60 more, and between two of 40 bits, 0x3243F6A8885·2^-40 and one unit of 2^-40 more.
@@ -41,17 +43,6 @@ pub fn sine_is_lipschitz()
     ensures { SineIsLipschitz }
 {}
 
-/// The value of a single term c·(m, n) at (x, y) is c·sin(pi·(mx + ny)), and the value of a sum is the sum of the values, for
-/// every approximation. Every formal point is a sum of single terms.
-pub fn values_add_up()
-    ensures { ValuesAddUp }
-{}
-
-/// The value of the sine form of a formal point is the second coordinate of the point, for every approximation.
-pub fn sine_forms_are_second_coordinates()
-    ensures { SineFormsAreSecondCoordinates }
-{}
-
 /// The law of addition: from some n on, `s(t + 1/2)·s(u) - s(t)·s(u + 1/2)` is within 2^-66 of `s(u - t)` for any two
 /// fractions t and u, where s is the approximation of sin(pi·t). One n serves all fractions.
 pub fn addition()
@@ -63,6 +54,17 @@ pub fn addition()
 /// the n-th approximation. One n serves all fractions.
 pub fn second_order()
     ensures { SecondOrder }
+{}
+
+/// The value of a single term c·(m, n) at (x, y) is c·sin(pi·(mx + ny)), and the value of a sum is the sum of the values, for
+/// every approximation. Every formal point is a sum of single terms.
+pub fn values_add_up()
+    ensures { ValuesAddUp }
+{}
+
+/// The value of the sine form of a formal point is the second coordinate of the point, for every approximation.
+pub fn sine_forms_are_second_coordinates()
+    ensures { SineFormsAreSecondCoordinates }
 {}
 
 /// The first coordinate of a single term c·(m, n) at (x, y) is c·sin(pi·(mx + ny + 1/2)), which is its second coordinate a
