@@ -8,7 +8,7 @@ use Rattle.ring_solver.proofs.Solver.{ring₁, ring₂, ring₃}
 use Rattle.ring_solver.proofs.Certificate.{le₁, le₂, le₄, le₅, certified, moved, mul_mono}
 use Rattle.rat_core.specs.Fraction.{ℚ, ◌÷◌, whole, ◌+ℚ◌, ◌-ℚ◌, ◌*ℚ◌, neg_ℚ, ◌≤ℚ◌, ◌<ℚ◌, abs, floor, wrapped}
 use Rattle.rat_core.proofs.Laws.{ℚ_ring, ℚ_ordered, int-add, le_refl, le_trans, le_or_lt, lt_le, lt_not_le, mul_nonneg}
-use Rattle.rat_core.proofs.Order.{int_le, int_lt_back, whole_nonneg, le_abs, neg_le_abs, abs-neg, abs_add_le}
+use Rattle.rat_core.proofs.Order.{int_le, int_lt_back, whole_nonneg, le_abs, neg_le_abs}
 use Rattle.rat_core.proofs.Sizes.{abs_swap, abs_by_way}
 use Rattle.rat_core.proofs.Wrapped.{wrapped_low, wrapped_high}
 use Rattle.trig_meaning.specs.PartialSums.{pi_sum, sine_sum}

@@ -8,7 +8,7 @@ use Rattle.ring_solver.proofs.Certificate.{le₁, le₂, le₃, le₅, moved}
 use Rattle.rat_core.specs.Fraction.{ℚ, ◌÷◌, whole, ◌+ℚ◌, ◌-ℚ◌, ◌*ℚ◌, neg_ℚ, ◌≤ℚ◌, at_most, abs}
 use Rattle.rat_core.proofs.Laws.{ℚ_ring, ℚ_ordered, over-mul, le_refl, le_trans, le_or_lt, lt_le, mul_nonneg}
 use Rattle.rat_core.proofs.Order.{le_lt_trans, whole_lt, whole_nonneg, over_nonneg, abs_le, abs-neg, abs-mul, abs_of_nonneg}
-use Rattle.rat_core.proofs.Sizes.{negated_low, negated_high, abs_nonneg, abs_swap, abs_by_way, abs_add_three, abs_product_le}
+use Rattle.rat_core.proofs.Sizes.{negated_high, abs_nonneg, abs_swap, abs_by_way, abs_add_three, abs_product_le}
 use Rattle.rat_core.proofs.Wrapped.{wrapped_is}
 use Rattle.trig_meaning.specs.PartialSums.{pi_sum, sine_sum, cosine_sum}
 use Rattle.trig_meaning.specs.Turn.{sine_within_turn, sine_of_turn}

@@ -7,7 +7,7 @@ use Rattle.ring_solver.proofs.Solver.{ring, ring₂, ring₃, ring₄, ring_by}
 use Rattle.ring_solver.proofs.Certificate.{le₂, le₄, certified, moved, at_most_of_same}
 use Rattle.rat_core.specs.Fraction.{ℚ, ◌÷◌, whole, ◌+ℚ◌, ◌-ℚ◌, ◌*ℚ◌, neg_ℚ, ◌≤ℚ◌, at_most, abs}
 use Rattle.rat_core.proofs.Laws.{ℚ_ring, ℚ_ordered, over-mul, le_trans, mul_nonneg}
-use Rattle.rat_core.proofs.Order.{whole_nonneg, over_nonneg, cancel_le, abs_le, le_abs, neg_le_abs, abs-neg, abs_add_le, abs_of_nonneg}
+use Rattle.rat_core.proofs.Order.{whole_nonneg, over_nonneg, cancel_le, le_abs, neg_le_abs, abs-neg, abs_add_le, abs_of_nonneg}
 use Rattle.rat_core.proofs.Sizes.{negated_low, negated_high, abs_nonneg, abs_add_three, abs_product_le, abs-square, abs_scaled_le, abs_weighted_le}
 use Rattle.rat_core.proofs.Sizes.{square_scaled_le}
 use Rattle.trig_meaning.specs.PartialSums.{pi_sum, sine_sum, cosine_sum}
