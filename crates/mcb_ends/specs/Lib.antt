@@ -9,3 +9,4 @@ pub mod Reader
 pub mod Room
 pub mod StdSink
 pub mod StdSource
+pub mod SureSource

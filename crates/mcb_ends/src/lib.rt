@@ -17,6 +17,9 @@ mod sink;
 mod source;
 mod std_sink;
 mod std_source;
+mod sure_sink;
+mod sure_source;
+mod unread;
 mod writing;
 
 pub use decimal::Decimal;
@@ -30,6 +33,8 @@ pub use source::Source;
 pub use std::alloc::AllocError as OutOfMemory;
 pub use std_sink::StdSink;
 pub use std_source::StdSource;
+pub use sure_sink::SureSink;
+pub use sure_source::SureSource;
 pub use writing::{put, put_all, put_decimal};
 
 #[cfg(test)]
