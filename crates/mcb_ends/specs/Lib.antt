@@ -2,6 +2,7 @@ pub mod Advance
 pub mod Bytes
 pub mod Calls
 pub mod Causes
+pub mod Gathered
 pub mod Lines
 pub mod MemSink
 pub mod MemSource

@@ -8,9 +8,11 @@
 mod calls;
 mod decimal;
 mod failed;
+mod gathered;
 pub mod laws;
 mod line;
 mod line_reader;
+mod loan;
 mod mem_sink;
 mod mem_source;
 mod sink;
@@ -24,8 +26,10 @@ mod writing;
 
 pub use decimal::Decimal;
 pub use failed::Failed;
+pub use gathered::Gathered;
 pub use line::Line;
 pub use line_reader::LineReader;
+pub use loan::Loan;
 pub use mem_sink::MemSink;
 pub use mem_source::MemSource;
 pub use sink::Sink;
