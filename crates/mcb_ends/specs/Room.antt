@@ -18,7 +18,7 @@ IsHonest-told_room (call ∷ calls) room bytes faults fact = tt
 
 -- more bytes keep a sink honest
 pub IsHonest-append_known : (room : Option ℕ) (written : Option (List ℕ)) (faults : ℕ) (bytes : List ℕ)
-  → IsHonest room written faults → IsHonest room (append_known written bytes) faults
+    → IsHonest room written faults → IsHonest room (append_known written bytes) faults
 IsHonest-append_known None written faults bytes honest = tt
 IsHonest-append_known (Some room) None faults bytes honest = absurd honest
 IsHonest-append_known (Some room) (Some xs) faults bytes honest = λ some.

@@ -5,6 +5,7 @@
 //! or a prefix of it and fails.
 #![tactic(auto)]
 
+mod before;
 mod calls;
 mod decimal;
 mod failed;
@@ -12,7 +13,6 @@ mod gathered;
 pub mod laws;
 mod line;
 mod line_reader;
-mod loan;
 mod mem_sink;
 mod mem_source;
 mod sink;
@@ -24,12 +24,12 @@ mod sure_source;
 mod unread;
 mod writing;
 
+pub use before::Before;
 pub use decimal::Decimal;
 pub use failed::Failed;
 pub use gathered::Gathered;
 pub use line::Line;
 pub use line_reader::LineReader;
-pub use loan::Loan;
 pub use mem_sink::MemSink;
 pub use mem_source::MemSource;
 pub use sink::Sink;

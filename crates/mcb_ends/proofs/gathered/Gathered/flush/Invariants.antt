@@ -9,8 +9,8 @@ invariant-loop-self g l =
     let k = g.K.Sink in
     record {
       written : Keeps (gathered_written k.written l.fn.self) (gathered_written k.written l.self);
-      room : k.room (gathered_sink l.self).now ≡ k.room (gathered_sink l.fn.self).now;
-      faults : k.faults (gathered_sink l.self).now ≡ k.faults (gathered_sink l.fn.self).now;
+      room : k.room (gathered_sink l.self) ≡ k.room (gathered_sink l.fn.self);
+      faults : k.faults (gathered_sink l.self) ≡ k.faults (gathered_sink l.fn.self);
     }
 
 abbrev pub decreases-loop-self : goal.decreases-loop-self

@@ -12,7 +12,7 @@ returns-clause-bytes c =
     let view : drop inside.at bytes ≡ c.args.self.now = c.self.view_is in
     let value : c.deref.result.now ≡ bytes = c.deref.ensures.value in
     let rest : take (length c.deref.result.now - inside.at) (drop inside.at c.deref.result.now) ≡ drop inside.at bytes =
-      take_rest c.deref.result.now inside.at ∙ ap (λ (xs : List ℕ). drop inside.at xs) value in
+    take_rest c.deref.result.now inside.at ∙ ap (λ (xs : List ℕ). drop inside.at xs) value in
     let copy : copied ≡ take count (drop inside.at bytes) = c.copy_from_slice.ensures.after ∙ ap (λ (xs : List ℕ). take count xs) rest in
     let fits : count ≤ length (drop inside.at bytes) = omega (arith, c.min-count.ensures, ap length rest) in
     sym view ∙ left_is_handed bytes copied (drop count c.args.buf.now) inside.at count copy fits
