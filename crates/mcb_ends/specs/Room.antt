@@ -12,7 +12,8 @@ told_room [] room = Some room
 told_room (call ∷ calls) room = None
 
 -- a sink that tells its room so is honest
-pub IsHonest-told_room : (fails : List ℕ) (room : ℕ) (bytes : List ℕ) (faults : ℕ) → (fails ≡ [] → 0 < faults → room ≤ length bytes) → IsHonest (told_room fails room) (Some bytes) faults
+pub IsHonest-told_room : (fails : List ℕ) (room : ℕ) (bytes : List ℕ) (faults : ℕ) → (fails ≡ [] → 0 < faults → room ≤ length bytes)
+    → IsHonest (told_room fails room) (Some bytes) faults
 IsHonest-told_room [] room bytes faults fact = fact refl
 IsHonest-told_room (call ∷ calls) room bytes faults fact = tt
 
