@@ -1,4 +1,4 @@
-use Rattle.std.proofs.Common.{◌≡◌, ◌-◌, ◌++◌, ℕ, ◌≤◌, List, length, take, length-take, arith}
+use Rattle.std.proofs.Common.{◌≡◌, ◌-◌, ◌++◌, ◌≤◌, length, take, length-take, arith}
 use Rattle.std.proofs.KnownBytes.{append_known-moved}
 use Rattle.mcb_ends.proofs.Gathering.{passed_split, HasGrown-appends}
 use Rattle.mcb_ends.proofs.gathered.Gathered.pass_on.Goals as goal

@@ -1,4 +1,4 @@
-use Rattle.std.proofs.Common.{◌≡◌, ◌-◌, ◌∙◌, ◌+◌, ◌++◌, ◌≤◌, List, ℕ, length, take, drop, sym, ap, arith, length-drop}
+use Rattle.std.proofs.Common.{◌≡◌, ◌-◌, ◌∙◌, ◌≤◌, List, ℕ, length, take, drop, sym, ap, arith}
 use Rattle.std.proofs.lemmas.List.{take_rest}
 use Rattle.mcb_ends.proofs.Handed.{left_is_handed}
 use Rattle.mcb_ends.proofs.unread.Unread.hand_out.Goals as goal
