@@ -105,6 +105,14 @@ in_turn is_due part_after = record {
   lines_of = lines_in_turn part_after [];
 }
 
+-- the first of parts in turn, with more to come or not
+abbrev pub so_far : {V : Type 0} → (List V → Bool) → (List V → Part V) → Part (List V)
+so_far is_due part_after = record {
+  grammar = (in_turn is_due part_after).grammar;
+  Says = AreSaid is_due part_after [];
+  lines_of = lines_in_turn part_after [];
+}
+
 -- the same part so many times
 abbrev pub repeated : {V : Type 0} → ℕ → Part V → Part (List V)
 repeated count part = in_turn (λ said. nat_lt (length said) count) (λ _. part)
