@@ -1,9 +1,9 @@
 -- What a due line may say, and for which reason any other line is refused.
-use Rattle.std.specs.Prelude.{◌≡◌, ◌≢◌, ℕ, ◌<◌, ◌≤◌, List, ⊤, Ok, Err}
+use Rattle.std.specs.Prelude.{◌≡◌, ◌≢◌, ℕ, ◌<◌, ◌≤◌, List, length, ⊤, Ok, Err}
 use Rattle.std.specs.declared.result.Result.{Result}
-use Rattle.mcb_ends.specs.Lines.{IsShortLine}
+use Rattle.mcb_ends.specs.Lines.{HasNoNewline, IsShortLine}
 use Rattle.line_grammar.specs.Offence.{number_of}
-use Rattle.line_grammar.specs.Text.{IsTwoFields, named_line}
+use Rattle.line_grammar.specs.Text.{HasNoSpace, IsTwoFields, named_line}
 use Rattle.line_grammar.specs.declared.reason.Reason.{Reason}
 use Rattle.line_grammar.specs.declared.reason.Reason.TheVariants.{OtherLine, Number}
 
@@ -50,6 +50,12 @@ abbrev pub RefusesNumber : List ℕ → ℕ → ℕ → List ℕ → Reason → 
 RefusesNumber name low high line OtherLine = ¬ (IsNamed name line)
 RefusesNumber name low high line Number = IsNamed name line × ¬ (IsNumbered name low high line)
 RefusesNumber name low high line reason = ⊥
+
+-- what may stand before the number: a field of at most 40 bytes
+pub record IsName (name : List ℕ) : Type 0 where
+  pub one_line : HasNoNewline name
+  pub one_field : HasNoSpace name
+  pub short : length name ≤ 40
 
 abbrev pub numbered_line : List ℕ → ℕ → ℕ → LineForm ℕ
 numbered_line name low high = record {
