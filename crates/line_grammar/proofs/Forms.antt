@@ -1,5 +1,5 @@
 -- The general forms read each line in one way.
-use Rattle.std.proofs.Common.{◌≡◌, ◌≢◌, ℕ, ◌≤◌, ◌<◌, ◌^◌, List, decimal, length, refl, sym, ◌∙◌, subst, arith}
+use Rattle.std.proofs.Common.{◌≡◌, ℕ, ◌≤◌, ◌<◌, ◌^◌, List, decimal, refl, sym, ◌∙◌, subst, arith}
 use Rattle.mcb_ends.specs.Lines.{IsShortLine}
 use Rattle.line_grammar.specs.declared.reason.Reason.{Reason}
 use Rattle.line_grammar.specs.declared.reason.Reason.TheVariants.{OtherLine, Number}

@@ -1,5 +1,5 @@
 -- The least reasons of lines are those of the bytes that begin with them.
-use Rattle.std.proofs.Common.{◌≡◌, ℕ, ◌<◌, ◌+◌, List, ◌++◌, length, refl, sym, ap, ◌∙◌, subst, arith, inl, inr}
+use Rattle.std.proofs.Common.{◌≡◌, ℕ, ◌<◌, List, refl, ap, subst, arith, inl, inr}
 use Rattle.std.proofs.lemmas.Bool.{cases_lt}
 use Rattle.line_grammar.specs.declared.reason.Reason.{Reason}
 use Rattle.line_grammar.specs.declared.reason.Reason.TheVariants.{TooLong, Ends, OtherLine, Number, CornerOutside, NotConvex}

@@ -1,15 +1,14 @@
 -- Reading part after part: what is read, and where reading fails.
 use Rattle.std.proofs.Common.{◌≡◌, ℕ, ◌+◌, Bool, true, false, List, [], ◌∷◌, ◌++◌, length, Option, Some, None}
 use Rattle.std.proofs.Common.{refl, sym, ap, ◌∙◌, subst, arith, length-append, append_assoc, append-nil}
-use Rattle.std.specs.Io.KnownBytes.{Consumes, IsAtEnd}
 use Rattle.mcb_ends.specs.Reader.{Reader, bytes_before}
 use Rattle.line_grammar.specs.declared.reason.Reason.{Reason}
 use Rattle.line_grammar.specs.Faults.{Refusal}
 use Rattle.line_grammar.specs.Input.{MayBe}
 use Rattle.line_grammar.specs.Offence.{Grammar, IsFirstOffence}
-use Rattle.line_grammar.specs.Part.{Part, followed_by, FollowingDue, InFirst, InSecond, in_turn, so_far, AreSaid, lines_in_turn}
+use Rattle.line_grammar.specs.Part.{Part, followed_by, InFirst, InSecond, in_turn, so_far, AreSaid, lines_in_turn}
 use Rattle.line_grammar.specs.Part.{end_of_text, seen_as, whole_text}
-use Rattle.line_grammar.specs.Reading.{TakesLines, ReadsAhead, StopsAfter, RefusesFirst, StopsEarly, FailsPart, TakesPart, TakesText}
+use Rattle.line_grammar.specs.Reading.{TakesLines, ReadsAhead, StopsAfter, FailsPart, TakesPart, TakesText}
 use Rattle.line_grammar.specs.Text.{text_of}
 use Rattle.line_grammar.proofs.FrontLines.{text_of-after}
 use Rattle.line_grammar.proofs.Taken.{takes_none, takes_as, takes_more, ahead_more, stops_later, may_be_more}
@@ -115,9 +114,12 @@ said_more is_due part_after before [] v said due says =
     let same = append-nil before in
     (subst (λ (l : List _). is_due l ≡ true) same due, subst (λ (l : List _). (part_after l).Says v) same says, tt)
 said_more is_due part_after before (u ∷ values) v said due says =
-    let same = sym (append_assoc before (u ∷ []) values) in
-    (said.0, said.1, said_more is_due part_after (before ++ u ∷ []) values v said.2
-      (subst (λ (l : List _). is_due l ≡ true) same due) (subst (λ (l : List _). (part_after l).Says v) same says))
+    let same = sym (append_assoc before (u ∷ []) values) in (
+      said.0,
+      said.1,
+      said_more is_due part_after (before ++ u ∷ []) values v said.2
+          (subst (λ (l : List _). is_due l ≡ true) same due) (subst (λ (l : List _). (part_after l).Says v) same says),
+    )
 
 pub lines_more : {V : Type 0} (part_after : List V → Part V) (before values : List V) (v : V)
     → lines_in_turn part_after before (values ++ v ∷ []) ≡ lines_in_turn part_after before values ++ (part_after (before ++ values)).lines_of v

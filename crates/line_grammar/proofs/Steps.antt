@@ -1,25 +1,22 @@
 -- One step of a reader of lines: what it finds decides how the due line is taken or refused.
-use Rattle.std.proofs.Common.{◌≡◌, ◌≢◌, ◌⊎◌, Bor, inl, inr, ℕ, ◌+◌, ◌≤◌, ◌<◌, false, true, List, [], ◌∷◌, ◌++◌, replicate, length, All, Option, Some, None, Ok, Err}
+use Rattle.std.proofs.Common.{◌≡◌, ◌≢◌, ◌⊎◌, Bor, inl, inr, ℕ, ◌+◌, ◌≤◌, ◌<◌, false, List, [], ◌∷◌, ◌++◌, replicate, length, All, Option, Some, None}
 use Rattle.std.proofs.Common.{refl, sym, ap, ◌∙◌, subst, arith, length-append, append_assoc}
-use Rattle.std.specs.declared.result.Result.{Result}
-use Rattle.std.specs.Io.KnownBytes.{Consumes, Keeps, prepend_known, IsAtEnd}
+use Rattle.std.specs.Io.KnownBytes.{Consumes, Keeps, prepend_known}
 use Rattle.std.proofs.lemmas.List.Elements.{All-replicate, All-nil, All-cons}
 use Rattle.mcb_ends.specs.Lines.{Next, Text, TooLong, CutShort, End, IsNext, IsShortLine, HasNoNewline, newline, is_text, next_of}
-use Rattle.mcb_ends.specs.Reader.{Reader, bytes_before, Takes, IsLine, HandsOut, IsUnchanged, ReadsOneBuffer, HasEnded}
+use Rattle.mcb_ends.specs.Reader.{Reader, bytes_before, Takes, IsLine, HandsOut, IsUnchanged, ReadsOneBuffer}
 use Rattle.mcb_ends.specs.declared.line.Line.{Line}
 use Rattle.mcb_ends.specs.declared.line.Line.TheVariants as line
 use Rattle.line_grammar.specs.declared.reason.Reason.{Reason}
 use Rattle.line_grammar.specs.declared.reason.Reason.TheVariants as reason
-use Rattle.line_grammar.specs.Faults.{Refusal}
 use Rattle.line_grammar.specs.Form.{LineForm, IsForm}
 use Rattle.line_grammar.specs.Input.{MayBe}
-use Rattle.line_grammar.specs.Offence.{IsTooLong, EndsEarly, IsLeast, HaveReason, LackReason, number_of}
+use Rattle.line_grammar.specs.Offence.{IsLeast, HaveReason, LackReason, number_of}
 use Rattle.line_grammar.specs.Part.{line_part, one_line, end_of_text, HasMore}
 use Rattle.line_grammar.specs.Reading.{TakesLines, EndsWithin, StopsAfter, StandsAfter, RefusesFirst, StopsEarly, TakesPart, TakesText}
 use Rattle.line_grammar.specs.Text.{text_of, BeginsWith}
 use Rattle.line_grammar.proofs.FrontLines.{text_of_one}
 use Rattle.line_grammar.proofs.Offending.{refused_least, long_least, early_least}
-use Rattle.line_grammar.proofs.Taken.{takes_as}
 
 all_one : {A : Type 0} (P : A → Type 0) (x : A) → P x → All P (x ∷ [])
 all_one P x here = All-cons P x [] here (All-nil P)
@@ -47,7 +44,7 @@ held_after held held' more line (Some xs) None within read takes = absurd read
 held_after held held' more line (Some xs) (Some ys) within read takes =
     let all : length (held ++ xs) ≡ length (line ++ newline ∷ (held' ++ ys)) = ap length takes.1 in
     let fits : length held' ≤ 4096 =
-        omega (arith, within, all, ap length read, length-append held xs, length-append more ys, length-append line (newline ∷ (held' ++ ys)), length-append held' ys) in
+    omega (arith, within, all, ap length read, length-append held xs, length-append more ys, length-append line (newline ∷ (held' ++ ys)), length-append held' ys) in
     (held', fits, takes.1 ∙ sym (text_of_one line (held' ++ ys)) ∙ sym (append_assoc (text_of (line ∷ [])) held' ys))
 
 ends_after_line : (old new : Reader) (left left' : Option (List ℕ)) (line : List ℕ) → old.is_done ≡ false → ReadsOneBuffer old left left'

@@ -1,13 +1,13 @@
 -- Lines that were taken one after another, and where reading stops after them.
-use Rattle.std.proofs.Common.{◌≡◌, inl, inr, ℕ, ◌+◌, ◌≤◌, false, List, [], ◌∷◌, ◌++◌, length, Option, Some, None, All}
-use Rattle.std.proofs.Common.{refl, sym, ap, ◌∙◌, subst, arith, length-append, append_assoc, append-nil}
+use Rattle.std.proofs.Common.{◌≡◌, inl, inr, ℕ, false, List, [], ◌∷◌, ◌++◌, Option, Some, None}
+use Rattle.std.proofs.Common.{sym, ap, ◌∙◌, subst, arith, length-append, append_assoc, append-nil}
 use Rattle.std.proofs.KnownBytes.{Consumes-trans, Consumes-nil}
 use Rattle.std.proofs.lemmas.List.Elements.{All-append, All-nil}
 use Rattle.std.specs.Io.KnownBytes.{Consumes}
 use Rattle.mcb_ends.specs.Lines.{IsShortLine}
 use Rattle.mcb_ends.specs.Reader.{Reader, bytes_before}
 use Rattle.line_grammar.specs.Input.{MayBe, IsNew}
-use Rattle.line_grammar.specs.Reading.{TakesLines, EndsWithin, ReadsAhead, IsDoneAfter, StandsAfter, StopsAfter}
+use Rattle.line_grammar.specs.Reading.{TakesLines, EndsWithin, ReadsAhead, StandsAfter, StopsAfter}
 use Rattle.line_grammar.specs.Text.{text_of}
 use Rattle.line_grammar.proofs.FrontLines.{text_of-append, text_of-after}
 
@@ -58,8 +58,11 @@ pub stands_later : (xs ys : List (List ℕ)) (old mid new : Reader) (a b c : Opt
     → StandsAfter (xs ++ ys) old new a c
 stands_later xs ys old mid new a b c taken (inl here) = inl (takes_more xs ys old mid new a b c taken here)
 stands_later xs ys old mid new a b c taken (inr (inl more)) =
-    inr (inl (more.0, takes_as (xs ++ (ys ++ more.0 ∷ [])) ((xs ++ ys) ++ more.0 ∷ []) old new a c (sym (append_assoc xs ys (more.0 ∷ [])))
-    (takes_more xs (ys ++ more.0 ∷ []) old mid new a b c taken more.1)))
+    inr (inl (
+      more.0,
+      takes_as (xs ++ (ys ++ more.0 ∷ [])) ((xs ++ ys) ++ more.0 ∷ []) old new a c (sym (append_assoc xs ys (more.0 ∷ [])))
+          (takes_more xs (ys ++ more.0 ∷ []) old mid new a b c taken more.1),
+    ))
 stands_later xs ys old mid new a b c taken (inr (inr over)) =
     inr (inr (record { done = over.done; number = omega (arith, over.number, taken.number, length-append xs ys) }))
 

@@ -16,7 +16,7 @@ returns-in_err-next-clause-stops g c =
     let a = left c.args.src.now in
     let b = left c.next.new.src in
     let same = MatchResult-at_err (λ (line : Line). HandsOut old new a b (next_of line)) (λ (_ : Failed). IsUnchanged old new a b) c.in_err-next.field-0.0 c.in_err-next.was
-        c.next.follows.holds-at-none in
+    c.next.follows.holds-at-none in
     stops_before old new a b c.requires.reading c.next.ensures.ahead same
 
 pub returns-in_err-next-clause-reads : goal.returns-in_err-next-clause-reads
@@ -27,7 +27,7 @@ returns-in_err-next-clause-reads g c =
     let a = left c.args.src.now in
     let b = left c.next.new.src in
     let same = MatchResult-at_err (λ (line : Line). HandsOut old new a b (next_of line)) (λ (_ : Failed). IsUnchanged old new a b) c.in_err-next.field-0.0 c.in_err-next.was
-        c.next.follows.holds-at-none in
+    c.next.follows.holds-at-none in
     let p = err_from_is_err_and c.from_residual.result c.from_residual.ensures.1 in
     rw (p.1, p.2) (record { due = tt; reached = tt; stops = stops_before old new a b c.requires.reading c.next.ensures.ahead same })
 
@@ -39,7 +39,7 @@ returns-in-End-clause-stops g c =
     let a = left c.args.src.now in
     let b = left c.next.new.src in
     let hands = MatchResult-at_ok (λ (line : Line). HandsOut old new a b (next_of line)) (λ (_ : Failed). IsUnchanged old new a b) c.in_ok-next.field-0 c.in_ok-next.was
-        c.next.follows.holds-at-none in
+    c.next.follows.holds-at-none in
     stops_here old new a b (next_of c.in_ok-next.field-0) c.requires.reading c.next.ensures.ahead hands
 
 pub returns-in-Text-clause-stops : goal.returns-in-Text-clause-stops
@@ -50,7 +50,7 @@ returns-in-Text-clause-stops g c =
     let a = left c.args.src.now in
     let b = left c.next.new.src in
     let hands = MatchResult-at_ok (λ (line : Line). HandsOut old new a b (next_of line)) (λ (_ : Failed). IsUnchanged old new a b) c.in_ok-next.field-0 c.in_ok-next.was
-        c.next.follows.holds-at-none in
+    c.next.follows.holds-at-none in
     stops_here old new a b (next_of c.in_ok-next.field-0) c.requires.reading c.next.ensures.ahead hands
 
 pub returns-in-End-clause-reads : goal.returns-in-End-clause-reads
@@ -62,7 +62,7 @@ returns-in-End-clause-reads g c =
     let b = left c.next.new.src in
     let was : c.next.result ≡ Ok End = c.in_ok-next.was ∙ ap (λ (line : Line). Ok line) c.in-End.is in
     let hands = MatchResult-at_ok (λ (line : Line). HandsOut old new a b (next_of line)) (λ (_ : Failed). IsUnchanged old new a b) End was
-        c.next.follows.holds-at-none in
+    c.next.follows.holds-at-none in
     ends_text old new a b c.requires.reading hands
 
 pub returns-in-Text-clause-reads : goal.returns-in-Text-clause-reads
@@ -73,5 +73,5 @@ returns-in-Text-clause-reads g c =
     let a = left c.args.src.now in
     let b = left c.next.new.src in
     let hands = MatchResult-at_ok (λ (line : Line). HandsOut old new a b (next_of line)) (λ (_ : Failed). IsUnchanged old new a b) c.in_ok-next.field-0 c.in_ok-next.was
-        c.next.follows.holds-at-none in
+    c.next.follows.holds-at-none in
     goes_on old new a b c.in_ok-next.field-0 (c.number-line.result + 1) (ap (λ n. n + 1) c.number-line.ensures) c.requires.reading c.next.ensures.ahead hands c.in-Text.is
