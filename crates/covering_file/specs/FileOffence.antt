@@ -1,5 +1,5 @@
 -- The lines of a covering file: those of a header, a node for each box that is due, the end line, and nothing after it.
-use Rattle.std.specs.Prelude.{◌≡◌, ℕ, ◌≤◌, List, [], ◌∷◌, ◌++◌, map, length, count_by, Bool, true, false}
+use Rattle.std.specs.Prelude.{◌≡◌, ℕ, ◌≤◌, List, [], ◌∷◌, ◌++◌, map, length, count_by}
 use Rattle.rational_polygon.specs.Square.{Square, unit_square}
 use Rattle.rational_polygon.specs.Apart.{IsApart}
 use Rattle.gradient_bounds.specs.Clear.{slack, IsClear}
@@ -13,7 +13,7 @@ use Rattle.covering_file.specs.HeaderDue.{HeaderDue}
 use Rattle.covering_file.specs.HeaderDue as header
 use Rattle.covering_file.specs.HeaderOffence.{LineHas, LineLacks}
 use Rattle.covering_file.specs.JobOffence.{EndHas, AfterHas}
-use Rattle.covering_file.specs.Node.{node_line, end_line, NodeHasForm, IsNodeLine}
+use Rattle.covering_file.specs.Node.{is_uncovered, node_line, end_line, NodeHasForm, IsNodeLine}
 use Rattle.covering_file.specs.Faults.{word_at, IsListed}
 use Rattle.covering_file.specs.DueBoxes.{due_boxes, AreDue, StandsIn}
 use Rattle.covering_file.specs.Sound.{IsSoundNode}
@@ -25,12 +25,6 @@ pub data FileDue : Type 0 where
   AtNode : (heading : Heading) (nodes : List Node) (box : Square) → FileDue
   AtEnd : (heading : Heading) (nodes : List Node) → FileDue
   AfterEnd : (heading : Heading) (nodes : List Node) → FileDue
-
-abbrev pub is_uncovered : Node → Bool
-is_uncovered node.Split = false
-is_uncovered node.Outside = false
-is_uncovered (node.Shown i) = false
-is_uncovered node.Uncovered = true
 
 -- the end line that is due after these nodes
 abbrev pub due_end : List Node → List ℕ
