@@ -1,5 +1,6 @@
 -- Which boxes are due after some nodes.
-use Rattle.std.specs.Prelude.{◌≡◌, ◌≢◌, ℕ, ◌<◌, ◌⊎◌, List, [], ◌∷◌, ◌++◌, fold, take, length}
+use Rattle.std.specs.Prelude.{◌≡◌, ◌≢◌, ℕ, ◌<◌, ◌⊎◌, List, [], ◌∷◌, ◌++◌, fold, take, length, Some, None}
+use Rattle.std.specs.declared.option.Option.{Option}
 use Rattle.rational_polygon.specs.Square.{Square, unit_square, child}
 use Rattle.covering_file.specs.declared.node.Node.{Node}
 use Rattle.covering_file.specs.declared.node.Node.TheVariants.{Split}
@@ -17,6 +18,11 @@ due_after (box ∷ due) leaf = due
 -- before the first node the unit square is due
 abbrev pub due_boxes : List Node → List Square
 due_boxes nodes = fold due_after (unit_square ∷ []) nodes
+
+-- the first of them
+abbrev pub first_of : List Square → Option Square
+first_of [] = None
+first_of (box ∷ others) = Some box
 
 -- a box is due before each node
 abbrev pub AreDue : List Node → Type 0

@@ -17,6 +17,7 @@ mod node;
 mod outline;
 mod reading;
 mod reason;
+mod walk;
 mod words;
 mod writing;
 
@@ -29,6 +30,7 @@ pub use job::read_job;
 pub use node::{Node, read_node};
 pub use reading::read_header;
 pub use reason::Reason;
+pub use walk::Walk;
 pub use writing::{write_end, write_header, write_node};
 
 #[cfg(test)]
