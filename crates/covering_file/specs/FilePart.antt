@@ -1,5 +1,5 @@
 -- A covering file, part by part: a header, a node for each box that is due, the end line, and nothing more.
-use Rattle.std.specs.Prelude.{◌≡◌, ℕ, ◌<◌, ◌≤◌, List, [], ◌∷◌, ◌++◌, map, length, count_by, Bool, true, false}
+use Rattle.std.specs.Prelude.{◌≡◌, ℕ, ◌<◌, ◌≤◌, List, [], ◌∷◌, ◌++◌, map, length, count_by, is_some}
 use Rattle.rational_polygon.specs.Square.{Square, unit_square}
 use Rattle.line_grammar.specs.declared.reason.Reason.{Reason}
 use Rattle.line_grammar.specs.declared.reason.Reason.TheVariants.{OtherLine, Number, EndLine, TooMany}
@@ -8,11 +8,10 @@ use Rattle.line_grammar.specs.Offence.{Grammar}
 use Rattle.line_grammar.specs.Part.{Part, one_line, line_part, followed_by, in_turn, seen_as, whole_text}
 use Rattle.covering_file.specs.declared.file_kind.FileKind.TheVariants.{Cover}
 use Rattle.covering_file.specs.declared.node.Node.{Node}
-use Rattle.covering_file.specs.declared.node.Node.TheVariants as node
-use Rattle.covering_file.specs.DueBoxes.{due_boxes}
+use Rattle.covering_file.specs.DueBoxes.{due_boxes, first_of}
 use Rattle.covering_file.specs.Header.{Heading, header_lines}
 use Rattle.covering_file.specs.HeaderPart.{header_part}
-use Rattle.covering_file.specs.Node.{node_line, end_line, IsNode, NodeHasForm, IsNodeLine}
+use Rattle.covering_file.specs.Node.{is_uncovered, node_line, end_line, IsNode, NodeHasForm, IsNodeLine}
 
 -- why a line is not that of a node, in a file with so many words
 abbrev pub RefusesNode : ℕ → List ℕ → Reason → Type 0
@@ -68,19 +67,9 @@ node_part claims limit h nodes = record {
 
 -- ---- all nodes
 
-abbrev pub some_box : List Square → Bool
-some_box [] = false
-some_box (box ∷ others) = true
-
 -- as long as a box is due, a node
 abbrev pub nodes_part : Claims → ℕ → Heading → Part (List Node)
-nodes_part claims limit h = in_turn (λ nodes. some_box (due_boxes nodes)) (node_part claims limit h)
-
-abbrev pub is_uncovered : Node → Bool
-is_uncovered node.Split = false
-is_uncovered node.Outside = false
-is_uncovered (node.Shown i) = false
-is_uncovered node.Uncovered = true
+nodes_part claims limit h = in_turn (λ nodes. is_some (first_of (due_boxes nodes))) (node_part claims limit h)
 
 -- the end line that is due after these nodes
 abbrev pub due_end : List Node → List ℕ

@@ -5,6 +5,7 @@ pub mod Node
 pub mod Faults
 pub mod Tree
 pub mod DueBoxes
+pub mod Walk
 pub mod Sound
 pub mod Covering
 pub mod FilePart

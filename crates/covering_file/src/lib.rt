@@ -14,6 +14,7 @@ pub mod laws;
 mod node;
 mod outline;
 mod reading;
+mod walk;
 mod words;
 mod writing;
 
@@ -25,6 +26,7 @@ pub use job::read_job;
 pub use line_grammar::Reason;
 pub use node::{Node, read_node};
 pub use reading::read_header;
+pub use walk::Walk;
 pub use writing::{write_end, write_header, write_node};
 
 /// How many words a file lists at most.
