@@ -2,7 +2,7 @@ use Rattle.std.proofs.Common.{◌≡◌, take}
 use Rattle.std.specs.List.{flat_map}
 use Rattle.exp_sums.specs.Terms.{put_terms}
 use Rattle.exp_sums.specs.SineForm.{sine_terms}
-use Rattle.exp_sums.proofs.turns.put_all_sines.Given as goal
+use Rattle.exp_sums.proofs.conjugates.put_all_sines.Given as goal
 
 -- what the terms so far give is put, without more room
 abbrev pub invariant-loop-term : goal.invariant-loop-term

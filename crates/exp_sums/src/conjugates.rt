@@ -1,4 +1,4 @@
-//! Terms whose directions are turned round.
+//! Terms with conjugate directions.
 ghost use Rattle.std.specs.Prelude.{◌≡◌, ◌+◌, ◌≤◌, T, unsigned_abs, length, map};
 ghost use Rattle.std.specs.List.{All, flat_map};
 ghost use Rattle.smallvec.specs.SmallVec.{small_vec_len, HasRoomFor};
@@ -10,8 +10,8 @@ ghost use Rattle.exp_sums.specs.Limits.{IsNear, terms_weight, greatest_exponent,
 use crate::direction::Dir;
 use crate::terms::{Term, Terms, put};
 
-/// The direction (−m, −n).
-fn turned(dir: Dir) -> Dir
+/// The conjugate direction (−m, −n).
+fn conjugate(dir: Dir) -> Dir
     requires { IsNear greatest_exponent dir }
     ensures { result ≡ dir_neg dir }
 {
@@ -28,7 +28,7 @@ fn is_upper(dir: Dir) -> bool
     dir.m > 0 || (dir.m == 0 && dir.n > 0)
 }
 
-/// Adds terms with their directions turned round, for which there is room.
+/// Adds terms with conjugate directions, for which there is room.
 pub fn put_all_conj(terms: &mut Terms, more: &[Term])
     requires canonical { T (is_canonical terms.old.items) }
     requires room { HasRoomFor terms.old (length more.now) }
@@ -40,7 +40,7 @@ pub fn put_all_conj(terms: &mut Terms, more: &[Term])
         put(
             terms,
             Term {
-                dir: turned(term.dir),
+                dir: conjugate(term.dir),
                 c: term.c,
             },
         );
@@ -58,7 +58,7 @@ fn put_sine(terms: &mut Terms, term: Term)
     ensures len { small_vec_len terms.new ≤ small_vec_len terms.old + 1 }
     ensures capacity { terms.new.capacity ≡ terms.old.capacity }
 {
-    let dir = turned(term.dir);
+    let dir = conjugate(term.dir);
     if is_upper(term.dir) {
         put(terms, term);
     } else if is_upper(dir) {
