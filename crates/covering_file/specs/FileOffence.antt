@@ -2,7 +2,8 @@
 use Rattle.std.specs.Prelude.{◌≡◌, ℕ, ◌≤◌, List, [], ◌∷◌, ◌++◌, map, length, count_by}
 use Rattle.rational_polygon.specs.Square.{Square, unit_square}
 use Rattle.rational_polygon.specs.Apart.{IsApart}
-use Rattle.gradient_bounds.specs.Clear.{slack, IsClear}
+use Rattle.gradient_bounds.specs.Clear.{IsClear}
+use Rattle.gradient_bounds.specs.Slacks as slacks
 use Rattle.covering_file.specs.declared.file_kind.FileKind.TheVariants.{Cover}
 use Rattle.covering_file.specs.declared.node.Node.{Node}
 use Rattle.covering_file.specs.declared.node.Node.TheVariants as node
@@ -44,7 +45,7 @@ pub record MayPass (limit : ℕ) (h : Heading) (nodes : List Node) : Type 0 wher
   pub heading : IsHeading h
   pub within : length nodes ≤ limit
   pub due : AreDue nodes
-  pub each : (box : Square) (n : Node) → StandsIn (unit_square ∷ []) nodes box n → IsSoundNode h (slack 60) box n
+  pub each : (box : Square) (n : Node) → StandsIn (unit_square ∷ []) nodes box n → IsSoundNode h slacks.sound box n
 
 -- each line before can be without any reason
 abbrev pub IsReached : ℕ → FileDue → Type 0
@@ -65,12 +66,12 @@ NodeHas limit h nodes box line reason = ⊥
 
 -- A line can have NotShown where its word is not clear with the wider slack ..
 abbrev pub NodeCanHave : ℕ → Heading → List Node → Square → List ℕ → Reason → Type 0
-NodeCanHave limit h nodes box line NotShown = (i : ℕ) × IsListed h.words i × (line ≡ node_line (node.Shown i)) × ¬ (IsClear (word_at h.words i) box (slack 40))
+NodeCanHave limit h nodes box line NotShown = (i : ℕ) × IsListed h.words i × (line ≡ node_line (node.Shown i)) × ¬ (IsClear (word_at h.words i) box slacks.sure.gradient)
 NodeCanHave limit h nodes box line reason = NodeHas limit h nodes box line reason
 
 -- .. and can lack it where its word is clear with the narrower one. Between the two slacks either may be said.
 abbrev pub NodeCanLack : ℕ → Heading → List Node → Square → List ℕ → Reason → Type 0
-NodeCanLack limit h nodes box line NotShown = (i : ℕ) → IsListed h.words i → line ≡ node_line (node.Shown i) → IsClear (word_at h.words i) box (slack 60)
+NodeCanLack limit h nodes box line NotShown = (i : ℕ) → IsListed h.words i → line ≡ node_line (node.Shown i) → IsClear (word_at h.words i) box slacks.sound.gradient
 NodeCanLack limit h nodes box line reason = ¬ (NodeHas limit h nodes box line reason)
 
 abbrev pub CanHave : ℕ → FileDue → List ℕ → Reason → Type 0
