@@ -6,7 +6,7 @@ use Rattle.rational_polygon.specs.Square.{Square}
 use Rattle.gradient_bounds.specs.Clear.{slack, IsClear}
 use Rattle.gradient_bounds.specs.Slacks.{Slacks}
 use Rattle.covering_file.specs.declared.node.Node.{Node}
-use Rattle.covering_file.specs.declared.reason.Reason.{Reason}
+use Rattle.line_grammar.specs.declared.reason.Reason.{Reason}
 use Rattle.covering_file.specs.Faults.{word_at, IsListed}
 use Rattle.covering_file.specs.Header.{Heading}
 use Rattle.covering_file.specs.Sound.{IsSoundNode, reason_of}

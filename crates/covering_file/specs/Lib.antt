@@ -1,10 +1,6 @@
-pub mod Text
-pub mod Input
 pub mod Header
-pub mod Offence
-pub mod HeaderDue
-pub mod HeaderOffence
-pub mod JobOffence
+pub mod CornerForms
+pub mod HeaderPart
 pub mod Node
 pub mod Faults
 pub mod Tree
@@ -12,8 +8,7 @@ pub mod DueBoxes
 pub mod Walk
 pub mod Sound
 pub mod Covering
-pub mod FileOffence
+pub mod FilePart
+pub mod CheckClaims
 pub mod Verdicts
 pub mod Laws
-pub mod Taking
-pub mod Forms

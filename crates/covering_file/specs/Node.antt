@@ -1,13 +1,9 @@
 -- The nodes of a tree, their lines, and the end line.
 use Rattle.std.specs.Prelude.{◌≡◌, ℕ, zero, suc, ◌≤◌, ◌⊎◌, List, decimal, codes, Bool, true, false, ⊤}
-use Rattle.std.specs.declared.result.Result.{Result}
-use Rattle.std.specs.Prelude.{Ok, Err}
 use Rattle.covering_file.specs.declared.node.Node.{Node}
 use Rattle.covering_file.specs.declared.node.Node.TheVariants.{Split, Outside, Shown, Uncovered}
-use Rattle.covering_file.specs.declared.reason.Reason.{Reason}
-use Rattle.covering_file.specs.declared.reason.Reason.TheVariants.{OtherLine, Number}
-use Rattle.covering_file.specs.Text.{two_fields}
-use Rattle.covering_file.specs.HeaderOffence.{IsNamed}
+use Rattle.line_grammar.specs.Text.{two_fields}
+use Rattle.line_grammar.specs.Form.{IsNamed}
 
 -- a node is a split, or else a leaf
 abbrev pub IsLeaf : Node → Type 0
@@ -35,13 +31,6 @@ NodeHasForm line = (line ≡ codes "s") ⊎ (line ≡ codes "o") ⊎ (line ≡ c
 -- the line of a node of a file with so many words
 abbrev pub IsNodeLine : ℕ → List ℕ → Type 0
 IsNodeLine words line = (node : Node) × IsNode words node × (line ≡ node_line node)
-
--- what a line is read as, where a node of a file with so many words is due
-abbrev pub ReadsNode : ℕ → List ℕ → Result Node Reason → Type 0
-ReadsNode words line (Ok node) = IsNode words node × (line ≡ node_line node)
-ReadsNode words line (Err OtherLine) = ¬ (NodeHasForm line)
-ReadsNode words line (Err Number) = NodeHasForm line × ¬ (IsNodeLine words line)
-ReadsNode words line (Err reason) = ⊥
 
 -- the end line of a tree with so many uncovered leaves
 abbrev pub end_line : ℕ → List ℕ

@@ -7,8 +7,8 @@ use Rattle.gradient_bounds.specs.Slacks.{Slacks}
 use Rattle.gradient_bounds.specs.Slacks as slacks
 use Rattle.covering_file.specs.declared.node.Node.{Node}
 use Rattle.covering_file.specs.declared.node.Node.TheVariants.{Split, Outside, Shown, Uncovered}
-use Rattle.covering_file.specs.declared.reason.Reason.{Reason}
-use Rattle.covering_file.specs.declared.reason.Reason.TheVariants as reason
+use Rattle.line_grammar.specs.declared.reason.Reason.{Reason}
+use Rattle.line_grammar.specs.declared.reason.Reason.TheVariants as reason
 use Rattle.covering_file.specs.Header.{Heading}
 use Rattle.covering_file.specs.Faults.{word_at, IsListed}
 use Rattle.covering_file.specs.Tree.{Tree, StandsAt}

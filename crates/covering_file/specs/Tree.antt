@@ -5,7 +5,7 @@ use Rattle.rational_polygon.specs.Square.{Square, child}
 use Rattle.covering_file.specs.declared.file_kind.FileKind.TheVariants.{Cover}
 use Rattle.covering_file.specs.declared.node.Node.{Node}
 use Rattle.covering_file.specs.declared.node.Node.TheVariants.{Split}
-use Rattle.covering_file.specs.Text.{with_newline}
+use Rattle.line_grammar.specs.Text.{with_newline}
 use Rattle.covering_file.specs.Header.{Heading, header_text}
 use Rattle.covering_file.specs.Node.{IsLeaf, is_uncovered, node_line, end_line}
 

@@ -1,9 +1,9 @@
 //! The fields of a line.
 ghost use Rattle.std.specs.Prelude.{◌≡◌, ◌==◌, List, ℕ, IfSome, IfNone, position};
-ghost use Rattle.covering_file.specs.Text.{space, IsTwoFields};
+ghost use Rattle.line_grammar.specs.Text.{space, IsTwoFields};
 
 /// The fields of a line that has exactly two.
-pub(crate) fn two_fields(line: &[u8]) -> Option<(&[u8], &[u8])>
+pub fn two_fields(line: &[u8]) -> Option<(&[u8], &[u8])>
     ensures found { IfSome result (λ fields. IsTwoFields line.now fields.0.now fields.1.now) }
     ensures none { IfNone result ((first second : List ℕ) → ¬ IsTwoFields line.now first second) }
 {

@@ -1,5 +1,5 @@
 ghost use Rattle.std.specs.Prelude.{◌≡◌};
-ghost use Rattle.covering_file.specs.Offence.{number_of};
+ghost use Rattle.line_grammar.specs.Offence.{number_of};
 
 /// Why a line is refused. Where a line has several reasons, the one that stands first here is named.
 #[derive(Clone, Copy, Debug, PartialEq, Eq)]

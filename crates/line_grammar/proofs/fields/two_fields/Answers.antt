@@ -1,6 +1,6 @@
 use Rattle.std.proofs.Common.{sym, ◌∙◌}
-use Rattle.covering_file.proofs.TwoFields.{one_field, two_found, more_fields}
-use Rattle.covering_file.proofs.fields.two_fields.Goals as goal
+use Rattle.line_grammar.proofs.TwoFields.{one_field, two_found, more_fields}
+use Rattle.line_grammar.proofs.fields.two_fields.Goals as goal
 
 pub returns-in_err-at-clause-none : goal.returns-in_err-at-clause-none
 returns-in_err-at-clause-none c = rw c.from_residual.ensures (one_field c.args.line.now (sym c.first_space.ensures ∙ c.in_err-at.was))

@@ -1,5 +1,5 @@
 -- Lines one after another, and the fields of a line.
-use Rattle.std.specs.Prelude.{◌≡◌, ◌≢◌, ℕ, List, [], ◌∷◌, ◌++◌, All}
+use Rattle.std.specs.Prelude.{◌≡◌, ◌≢◌, ℕ, List, [], ◌∷◌, ◌++◌, All, decimal}
 use Rattle.std.specs.List.{flat_map}
 use Rattle.mcb_ends.specs.Lines.{newline, IsNext}
 use Rattle.mcb_ends.specs.Lines as next
@@ -25,6 +25,10 @@ HasNoSpace bytes = All (λ byte. byte ≢ space) bytes
 
 abbrev pub two_fields : List ℕ → List ℕ → List ℕ
 two_fields first second = first ++ space ∷ second
+
+-- a name and a number
+abbrev pub named_line : List ℕ → ℕ → List ℕ
+named_line name n = two_fields name (decimal n)
 
 -- the line has exactly these two fields
 pub record IsTwoFields (line first second : List ℕ) : Type 0 where

@@ -1,9 +1,11 @@
 -- What it is for a line to offend, and to be the first that does.
 use Rattle.std.specs.Prelude.{◌≡◌, ℕ, ◌+◌, ◌<◌, List, ◌++◌, length, take}
 use Rattle.mcb_ends.specs.Lines.{HasNoNewline}
-use Rattle.covering_file.specs.Text.{text_of, BeginsWith}
-use Rattle.covering_file.specs.declared.reason.Reason.{Reason}
-use Rattle.covering_file.specs.declared.reason.Reason.TheVariants.{TooLong, Ends, OtherLine, Number, CornerOutside, NotConvex, NotAWord, UnstableWord, SplitTooDeep, NotApart, NotShown, Uncovered, EndLine, TooMany}
+use Rattle.line_grammar.specs.Text.{text_of, BeginsWith}
+use Rattle.line_grammar.specs.declared.reason.Reason.{Reason}
+use Rattle.line_grammar.specs.declared.reason.Reason.TheVariants.{TooLong, Ends, OtherLine, Number, CornerOutside, NotConvex}
+use Rattle.line_grammar.specs.declared.reason.Reason.TheVariants.{NotAWord, UnstableWord, SplitTooDeep, NotApart, NotShown}
+use Rattle.line_grammar.specs.declared.reason.Reason.TheVariants.{Uncovered, EndLine, TooMany}
 
 -- the number of a reason: where a line has several, the least is named
 abbrev pub number_of : Reason → ℕ
@@ -48,7 +50,8 @@ pub record IsLeast (has lacks : Reason → Type 0) (reason : Reason) : Type 0 wh
   pub holds : has reason
   pub none_less : (r : Reason) → number_of r < number_of reason → lacks r
 
--- A grammar says which line is due after which lines: a due line, reached where none of the lines before it offends; the lines before it; and the reasons that the bytes there have and lack.
+-- A grammar says which line is due after which lines: a due line, reached where none of the lines before it offends; the
+-- lines before it; and the reasons that the bytes there have and lack.
 pub record Grammar : Type 1 where
   pub Due : Type 0
   pub IsReached : Due → Type 0
@@ -56,7 +59,8 @@ pub record Grammar : Type 1 where
   pub Has : Due → List ℕ → Reason → Type 0
   pub Lacks : Due → List ℕ → Reason → Type 0
 
--- The bytes are the lines before a due line that is reached, and then bytes whose least reason there is this one. The due line has this number.
+-- The bytes are the lines before a due line that is reached, and then bytes whose least reason there is this one. The due
+-- line has this number.
 pub record IsFirstOffence (g : Grammar) (bytes : List ℕ) (line : ℕ) (reason : Reason) : Type 0 where
   pub due : g.Due
   pub rest : List ℕ
