@@ -2,9 +2,9 @@
 use Rattle.std.proofs.Common.{◌≡◌, inl, inr, ℕ, ◌+◌, ◌<◌, ◌≤◌, List, [], ◌∷◌, ◌++◌, length, take, map, codes, All, refl, sym, ap, ◌∙◌, subst, arith, append_assoc, length-append}
 use Rattle.std.proofs.lemmas.Bool.{cases_lt}
 use Rattle.std.proofs.lemmas.List.{append-nil, append_cancel_left, take_at}
-use Rattle.rat_core.specs.Fraction.{ℚ}
 use Rattle.rational_polygon.specs.Square.{Square, unit_square, child}
-use Rattle.gradient_bounds.specs.Clear.{slack}
+use Rattle.gradient_bounds.specs.Slacks.{Slacks}
+use Rattle.gradient_bounds.specs.Slacks as slacks
 use Rattle.mcb_ends.specs.Lines.{newline, IsShortLine}
 use Rattle.covering_file.specs.declared.file_kind.FileKind.TheVariants.{Cover}
 use Rattle.covering_file.specs.declared.node.Node.{Node}
@@ -67,7 +67,7 @@ begins line lines bytes short is = (text_of lines, (short, sym is ∙ append_ass
 
 -- ---- what a sure tree says
 
-pub all_covered : (e : ℚ) (t : Tree) (h : Heading) (root : Square) → ((box : Square) (n : Node) → StandsAt root t box n → IsSoundNode h e box n) → uncovered_in t ≡ 0
+pub all_covered : (e : Slacks) (t : Tree) (h : Heading) (root : Square) → ((box : Square) (n : Node) → StandsAt root t box n → IsSoundNode h e box n) → uncovered_in t ≡ 0
 all_covered e (leaf n is) h root sound = rw (sound_is_covered h e root n (sound root n (refl, refl))) refl
 all_covered e (split a b c d) h root sound =
     omega (
@@ -87,7 +87,7 @@ record IsSureTree (limit : ℕ) (h : Heading) (t : Tree) : Type 0 where
 
 sure_end : (limit : ℕ) (h : Heading) (t : Tree) → IsSureTree limit h t → IsShortLine (due_end (preorder t))
 sure_end limit h t tree =
-    let none = all_covered (slack 40) t h unit_square tree.sure in
+    let none = all_covered slacks.sure t h unit_square tree.sure in
     let complete : IsShortLine (codes "end complete") = record { one = lacks_byte newline (codes "end complete") refl; short = omega arith } in
     subst (λ (n : ℕ). IsShortLine (end_line n)) (sym none) complete
 
@@ -99,8 +99,8 @@ sure_begun : (limit : ℕ) (h : Heading) (t : Tree) (nodes : List Node) (others 
     → IsBegun (preorder t) nodes (due_end (preorder t)) others rest
 sure_begun limit h t nodes others rest tree pass is =
     let words = length h.words in
-    let each = each_stands (IsNode words) (preorder t) (unit_square ∷ []) (tree_is_whole t).due (λ box n s. sound_is_node h (slack 40) box n (tree.sure box n (list_to_tree t box n s))) in
-    let each' = each_stands (IsNode words) nodes (unit_square ∷ []) pass.due (λ box n s. sound_is_node h (slack 60) box n (pass.each box n s)) in
+    let each = each_stands (IsNode words) (preorder t) (unit_square ∷ []) (tree_is_whole t).due (λ box n s. sound_is_node h slacks.sure box n (tree.sure box n (list_to_tree t box n s))) in
+    let each' = each_stands (IsNode words) nodes (unit_square ∷ []) pass.due (λ box n s. sound_is_node h slacks.sound box n (pass.each box n s)) in
     begun words tree.heading.word_count.1 (preorder t) nodes (due_end (preorder t)) others rest each each' (tree_is_whole t).none_left pass.due is
 
 -- ---- where a node is due
@@ -116,7 +116,7 @@ at_node_of limit h t nodes (n ∷ more) box boxes rest tree due list text r =
     let sure = tree.sure box n stands in
     let few = tree.heading.word_count.1 in
     let fewer : length nodes < limit = omega (arith, tree.within, ap length list, length-append nodes (n ∷ more)) in
-    let short = node_line-short (length h.words) few n (sound_is_node h (slack 40) box n sure) in
+    let short = node_line-short (length h.words) few n (sound_is_node h slacks.sure box n sure) in
     let next = begins (node_line n) (map node_line more ++ due_end (preorder t) ∷ []) rest short text in
     no_reason (NodeCanHave limit h nodes box) rest (node_line n) next (sure_lacks limit h nodes box n few fewer sure) r
 
