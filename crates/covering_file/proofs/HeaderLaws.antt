@@ -5,7 +5,7 @@ use Rattle.edge_words.specs.Reading.{digits_of}
 use Rattle.rational_polygon.specs.declared.TheConstants.{MAX_GRID, MAX_LEVEL, MIN_CORNERS, MAX_CORNERS}
 use Rattle.rational_polygon.specs.Outline.{Outline, IsInside, IsPolygon, IsStrictlyConvex}
 use Rattle.line_grammar.specs.declared.reason.Reason.TheVariants.{OtherLine, EndLine}
-use Rattle.line_grammar.specs.Form.{whole_line}
+use Rattle.line_grammar.specs.Form.{whole_line, numbered_line}
 use Rattle.line_grammar.specs.Laws.{ValueIsOne, NeverOffends, OffenceIsOne}
 use Rattle.line_grammar.specs.Offence.{IsFirstOffence}
 use Rattle.line_grammar.specs.Part.{Part, line_part, followed_by, in_turn, repeated}
@@ -176,9 +176,11 @@ header_never_offends kind h rest line reason is = header_never kind rest h line 
 polygon_offence : OffenceIsOne polygon_part.grammar
 polygon_offence =
     both_offences_are_one (named_part (codes "grid") 1 MAX_GRID) counted_corners
-    (line_is_one _ (grid_is_form 1 MAX_GRID (omega arith))) (line_never _ (grid_is_form 1 MAX_GRID (omega arith)) Any) (line_offence_is_one _)
+    (line_is_one _ (grid_is_form 1 MAX_GRID (omega arith))) (line_never _ (grid_is_form 1 MAX_GRID (omega arith)) Any)
+    (line_offence_is_one (numbered_line (codes "grid") 1 MAX_GRID))
     (λ grid _. both_offences_are_one (named_part (codes "polygon") MIN_CORNERS MAX_CORNERS) (corners_part grid)
-      (line_is_one _ (polygon_is_form MIN_CORNERS MAX_CORNERS (omega arith))) (line_never _ (polygon_is_form MIN_CORNERS MAX_CORNERS (omega arith)) Any) (line_offence_is_one _)
+      (line_is_one _ (polygon_is_form MIN_CORNERS MAX_CORNERS (omega arith))) (line_never _ (polygon_is_form MIN_CORNERS MAX_CORNERS (omega arith)) Any)
+      (line_offence_is_one (numbered_line (codes "polygon") MIN_CORNERS MAX_CORNERS))
       (λ count _. turn_offences_are_one (corner_due count) (corner_after grid count)
         (λ l. line_is_one (next_corner_form grid count l) (next_corner_is_form grid count l))
         (λ l y. line_never (next_corner_form grid count l) (next_corner_is_form grid count l) Any y)
@@ -187,16 +189,18 @@ polygon_offence =
 words_offence : OffenceIsOne words_part.grammar
 words_offence =
     both_offences_are_one (named_part (codes "words") 1 MAX_WORDS) listed_part
-    (line_is_one _ (words_is_form 1 MAX_WORDS (omega arith))) (line_never _ (words_is_form 1 MAX_WORDS (omega arith)) Any) (line_offence_is_one _)
+    (line_is_one _ (words_is_form 1 MAX_WORDS (omega arith))) (line_never _ (words_is_form 1 MAX_WORDS (omega arith)) Any)
+    (line_offence_is_one (numbered_line (codes "words") 1 MAX_WORDS))
     (λ count _. turn_offences_are_one (word_due count) word_after (λ l. line_is_one word_form word_is_form)
       (λ l y. line_never word_form word_is_form Any y) (λ l. line_offence_is_one word_form))
 
 pub header_offence_is_one : (kind : FileKind) → OffenceIsOne (header_part kind).grammar
 header_offence_is_one kind =
     both_offences_are_one (first_part kind) after_first_line
-    (line_is_one _ (first_is_form kind)) (line_never _ (first_is_form kind) Any) (line_offence_is_one _)
+    (line_is_one _ (first_is_form kind)) (line_never _ (first_is_form kind) Any)
+    (line_offence_is_one (whole_line (first_line kind) OtherLine))
     (λ _ _. both_offences_are_one polygon_part after_polygon polygon_one polygon_never polygon_offence
-      (λ _ _. both_offences_are_one words_part (λ _. depth_part) words_one words_never words_offence (λ _ _. line_offence_is_one _)))
+      (λ _ _. both_offences_are_one words_part (λ _. depth_part) words_one words_never words_offence (λ _ _. line_offence_is_one (numbered_line (codes "depth") 0 MAX_LEVEL))))
 
 -- ---- a job
 
@@ -223,4 +227,4 @@ job_never_offends h line reason is first =
 pub job_offence_is_one : OffenceIsOne job_part.grammar
 job_offence_is_one =
     text_offence_is_one ended_header ended_one ended_never
-    (both_offences_are_one (header_part Job) end_part (header_value_is_one Job) (header_never Job) (header_offence_is_one Job) (λ _ _. line_offence_is_one _))
+    (both_offences_are_one (header_part Job) end_part (header_value_is_one Job) (header_never Job) (header_offence_is_one Job) (λ _ _. line_offence_is_one (whole_line (codes "end") EndLine)))

@@ -7,3 +7,17 @@ pub mod NextCorner
 pub mod HeaderParts
 pub mod Wanting
 pub mod JobParts
+pub mod HeaderLaws
+pub mod Texts
+pub mod Trees
+pub mod TreeText
+pub mod Covers
+pub mod NodeLines
+pub mod NodeParts
+pub mod NodesSaid
+pub mod FileParts
+pub mod OneFile
+pub mod Sure
+pub mod Passed
+pub mod Accepted
+mod Stack
