@@ -1,5 +1,5 @@
 -- The parts of a covering file: they tell one value, and whole ones with a sure tree never offend.
-use Rattle.std.proofs.Common.{◌≡◌, ℕ, ◌+◌, ◌≤◌, List, [], ◌∷◌, ◌++◌, length, map, codes, count_by, refl, sym, ap, ◌∙◌, subst, arith}
+use Rattle.std.proofs.Common.{◌≡◌, ℕ, ◌≤◌, List, [], ◌∷◌, ◌++◌, length, codes, count_by, refl, sym, ap, subst, arith}
 use Rattle.gradient_bounds.specs.Slacks as slacks
 use Rattle.mcb_ends.specs.Lines.{newline, IsShortLine}
 use Rattle.line_grammar.specs.declared.reason.Reason.TheVariants.{EndLine}
@@ -67,7 +67,7 @@ tree_never limit h x few =
     seen_never (followed_by (nodes_part check_claims limit h) end_after) (nodes_part check_claims limit h).Says tree_lines
     (λ (ns : List Node). let p : List Node × Unit {0} = (ns, tt) in p) (λ p. AreSure (IsSureAfter h) [] p.0 × Any p.1) (AreSure (IsSureAfter h) []) x
     (both_never (nodes_part check_claims limit h) end_after (AreSure (IsSureAfter h) []) (λ _. Any) x (nodes_are_one limit h few) (λ y. nodes_never limit h y few)
-      (λ ns says. line_never _ (end_after_is_form limit h ns says) Any x))
+    (λ ns says. line_never _ (end_after_is_form limit h ns says) Any x))
     (λ ns is. (is, tt)) (λ ns is. node_lines check_claims limit h ns) (λ ns _ sure. (sure, tt))
 
 -- ---- the file

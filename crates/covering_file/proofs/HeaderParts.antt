@@ -1,5 +1,5 @@
 -- The parts of a header, one after another.
-use Rattle.std.proofs.Common.{◌≡◌, ℕ, ◌+◌, ◌≤◌, ◌<◌, Bool, true, false, nat_lt, List, [], ◌∷◌, ◌++◌, length, map, codes, All, Option, IfOk, IfErr, Result, Ok, Err}
+use Rattle.std.proofs.Common.{◌≡◌, ℕ, ◌+◌, ◌≤◌, ◌<◌, Bool, false, nat_lt, List, [], ◌∷◌, ◌++◌, length, map, codes, All, Option, IfOk, IfErr, Result, Ok, Err}
 use Rattle.std.proofs.Common.{refl, sym, ap, ◌∙◌, subst, arith, length-append, append_assoc}
 use Rattle.std.proofs.lemmas.Bool.{lt-ltb, le-ltb}
 use Rattle.std.proofs.lemmas.List.{length-map}
@@ -10,16 +10,16 @@ use Rattle.rational_polygon.specs.Outline.{Outline, IsInside, IsPolygon}
 use Rattle.line_grammar.specs.declared.reason.Reason.TheVariants.{OtherLine}
 use Rattle.line_grammar.specs.Faults.{Refusal}
 use Rattle.line_grammar.specs.Form.{whole_line}
-use Rattle.line_grammar.specs.Part.{Part, AreSaid, line_part, lines_in_turn, followed_by, so_far, in_turn, repeated}
+use Rattle.line_grammar.specs.Part.{Part, AreSaid, line_part, lines_in_turn, followed_by, so_far}
 use Rattle.line_grammar.specs.Reading.{FailsPart, TakesPart, ReadsPart}
-use Rattle.line_grammar.proofs.Counted.{lines_of_each, said_each, said_repeated, exact_count}
+use Rattle.line_grammar.proofs.Counted.{lines_of_each, said_each, said_repeated}
 use Rattle.line_grammar.proofs.Parts.{fails_first, fails_second, takes_both, takes_turn, takes_all_turns, fails_turn, takes_seen}
 use Rattle.covering_file.specs.declared.fault.HeadFault.{HeadFault}
 use Rattle.covering_file.specs.Faults.{head_refusal}
 use Rattle.covering_file.specs.declared.TheConstants.{MAX_WORDS}
 use Rattle.covering_file.specs.declared.file_kind.FileKind.{FileKind}
-use Rattle.covering_file.specs.CornerForms.{CompletesNone, next_corner_form, word_form}
-use Rattle.covering_file.specs.Header.{Heading, IsHeading, IsStableWord, first_line, corner_line, outline_lines, words_lines, header_lines}
+use Rattle.covering_file.specs.CornerForms.{next_corner_form, word_form}
+use Rattle.covering_file.specs.Header.{IsHeading, first_line, corner_line, outline_lines, words_lines, header_lines}
 use Rattle.covering_file.specs.HeaderPart.{named_part, corners_part, corners_so_far, counted_corners, polygon_part}
 use Rattle.covering_file.specs.HeaderPart.{listed_part, words_part, depth_part, after_polygon, after_first_line, header_part}
 
@@ -171,7 +171,7 @@ pub depth_fails : (kind : FileKind) (o : Outline) (ws : List (List ℕ)) (old mi
 depth_fails kind o ws old mid at last new a b c d e refusal first outline words fails =
     fails_second (first_part kind) after_first_line tt old mid new a b e refusal first
     (fails_second polygon_part after_polygon o mid at new b c e refusal outline
-      (fails_second words_part (λ _. depth_part) ws at last new c d e refusal words fails))
+    (fails_second words_part (λ _. depth_part) ws at last new c d e refusal words fails))
 
 pub header_taken : (kind : FileKind) (o : Outline) (ws : List (List ℕ)) (depth : ℕ) (old mid at last new : Reader) (a b c d e : Option (List ℕ))
     → TakesPart (first_part kind) old mid a b tt → TakesPart polygon_part mid at b c o → TakesPart words_part at last c d ws

@@ -1,5 +1,5 @@
 -- The parts of a job: a header, the end line, and nothing after it.
-use Rattle.std.proofs.Common.{◌≡◌, ℕ, false, List, [], ◌∷◌, ◌++◌, codes, Option, Some, None, IfErr, Result, Ok, Err, refl, sym, subst}
+use Rattle.std.proofs.Common.{◌≡◌, ℕ, false, List, ◌++◌, codes, Option, IfErr, Result, refl, sym, subst}
 use Rattle.mcb_ends.specs.Reader.{Reader, bytes_before}
 use Rattle.line_grammar.specs.declared.reason.Reason.TheVariants.{EndLine}
 use Rattle.line_grammar.specs.declared.fault.LineFault.{LineFault}

@@ -1,5 +1,5 @@
 -- The next corner of a polygon, by the form of a corner.
-use Rattle.std.proofs.Common.{◌≡◌, ℕ, ◌+◌, ◌≤◌, ◌<◌, List, [], ◌∷◌, ◌++◌, All, length, Option, arith, sym, subst}
+use Rattle.std.proofs.Common.{◌≡◌, ℕ, ◌+◌, List, [], ◌∷◌, ◌++◌, All, length, Option, sym, subst}
 use Rattle.mcb_ends.specs.Reader.{Reader}
 use Rattle.rational_polygon.specs.Outline.{IsGrid, IsCount, IsInside, IsStrictlyConvex, IsPolygon}
 use Rattle.line_grammar.specs.declared.reason.Reason.{Reason}
@@ -8,7 +8,7 @@ use Rattle.line_grammar.specs.Faults.{Refusal}
 use Rattle.line_grammar.specs.Part.{line_part}
 use Rattle.line_grammar.specs.Reading.{StopsAfter, RefusesFirst, FailsPart, TakesPart}
 use Rattle.line_grammar.proofs.Refused.{HasLeast, form_least, line_fails, taken_refused}
-use Rattle.covering_file.specs.CornerForms.{RefusesCorner, corner_form, CompletesNone, RefusesNextCorner, next_corner_form}
+use Rattle.covering_file.specs.CornerForms.{corner_form, CompletesNone, RefusesNextCorner, next_corner_form}
 use Rattle.covering_file.specs.Header.{corner_line}
 use Rattle.covering_file.proofs.CornerForms.{refuses_next, next_corner_is_form}
 use Rattle.covering_file.proofs.Pushed.{all_more, length_more}

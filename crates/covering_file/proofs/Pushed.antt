@@ -1,7 +1,6 @@
 -- One more element at the end.
-use Rattle.std.proofs.Common.{◌≡◌, ℕ, ◌+◌, true, List, [], ◌∷◌, ◌++◌, All, map, length, Option, Result, Ok, sym, ap, ◌∙◌, subst, length-append, if◌then◌else◌}
+use Rattle.std.proofs.Common.{◌≡◌, ◌+◌, true, List, [], ◌∷◌, ◌++◌, All, length, Result, Ok, sym, ap, ◌∙◌, subst, length-append, if◌then◌else◌}
 use Rattle.std.specs.Result.{is_ok}
-use Rattle.std.proofs.lemmas.List.{map-append}
 use Rattle.std.proofs.lemmas.List.Elements.{All-append, All-nil, All-cons}
 
 -- a push that succeeded, seen by another result

@@ -1,13 +1,12 @@
-use Rattle.std.proofs.Common.{◌≡◌, ◌+◌, ◌≤◌, List, ℕ, [], length, codes, arith, subst, sym, ◌∙◌, refl, Err}
+use Rattle.std.proofs.Common.{Err}
 use Rattle.std.proofs.lemmas.Result.{err_from_is_err_and}
-use Rattle.mcb_ends.specs.Reader.{bytes_before}
 use Rattle.line_grammar.specs.Input.{IsNew}
 use Rattle.covering_file.specs.declared.file_kind.FileKind.TheVariants.{Job}
 use Rattle.covering_file.proofs.JobParts.{from_line}
 use Rattle.covering_file.specs.Header.{Heading}
 use Rattle.covering_file.proofs.HeadLines.{end_is_form}
 use Rattle.covering_file.proofs.JobParts.{header_in_job, end_fails, after_fails, job_taken, wants_new, begins_new}
-use Rattle.covering_file.proofs.Wanting.{wants_none, wants_if_err}
+use Rattle.covering_file.proofs.Wanting.{wants_if_err}
 use Rattle.covering_file.proofs.job.read_job.Goals as goal
 
 pub take-requires-clause-form : goal.take-requires-clause-form

@@ -1,10 +1,6 @@
-use Rattle.std.proofs.Common.{◌≡◌, ◌+◌, false, true, length, refl, arith, sym, ◌∙◌, subst}
+use Rattle.std.proofs.Common.{◌≡◌, ◌+◌, false, true, length, refl, ◌∙◌}
 use Rattle.std.proofs.lemmas.Result.{err_from_is_err_and}
 use Rattle.rational_polygon.specs.Outline.{IsPolygon}
-use Rattle.line_grammar.specs.Faults.{Refusal}
-use Rattle.line_grammar.specs.Part.{line_part}
-use Rattle.line_grammar.specs.Reading.{FailsPart}
-use Rattle.covering_file.specs.CornerForms.{next_corner_form}
 use Rattle.covering_file.proofs.CornerForms.{corner_is_form}
 use Rattle.covering_file.proofs.HeadFaults.{same_refusal}
 use Rattle.covering_file.proofs.NextCorner.{next_fails, last_refused, not_convex}

@@ -1,4 +1,4 @@
-use Rattle.std.proofs.Common.{None, ◌≡◌, ◌+◌, ◌≤◌, ◌<◌, true, ℕ, List, ◌++◌, [], ◌∷◌, length, arith, ◌∙◌, sym, subst}
+use Rattle.std.proofs.Common.{None, ◌+◌, ◌<◌, ℕ, List, length, arith, ◌∙◌, sym, subst}
 use Rattle.std.proofs.lemmas.Result.{err_from_is_err_and}
 use Rattle.line_grammar.specs.Reading.{TakesPart}
 use Rattle.covering_file.specs.CornerForms.{CompletesNone}

@@ -1,9 +1,9 @@
-use Rattle.std.proofs.Common.{None, ◌≡◌, ◌+◌, ◌<◌, ℕ, List, [], ◌∷◌, ◌++◌, length, arith, ◌∙◌, sym, subst}
+use Rattle.std.proofs.Common.{None, ◌<◌, ℕ, List, length, arith, ◌∙◌, sym, subst}
 use Rattle.std.proofs.lemmas.Result.{err_from_is_err_and}
 use Rattle.line_grammar.specs.Reading.{TakesPart}
 use Rattle.covering_file.proofs.CornerForms.{word_is_form}
 use Rattle.covering_file.proofs.HeadFaults.{same_refusal}
-use Rattle.covering_file.proofs.HeaderParts.{word_turn_fails, word_turn_taken, listed_so_far, all_listed}
+use Rattle.covering_file.proofs.HeaderParts.{word_turn_fails, word_turn_taken, listed_so_far}
 use Rattle.covering_file.proofs.Pushed.{pushed, length_more}
 use Rattle.covering_file.proofs.words.read_listed.Goals as goal
 
