@@ -56,7 +56,7 @@ module _ (f : Dir → ℤ) (v : FormalPoint) where
       weigh-sine_form ℤ_ring ℤ_image f (conj v *ₚ monomial c d)
       ∙ weigh-*ₚ ℤ_ring ℤ_image half (conj v) (monomial c d)
       ∙ weigh_same ℤ_ring ℤ_image (λ e. weigh_ints (λ u. half (dir_sum e u)) (monomial c d)) (λ e. c *ℤ half (dir_sum e d))
-          (λ e. weigh-monomial ℤ_ring ℤ_image (λ u. half (dir_sum e u)) c d) (conj v)
+      (λ e. weigh-monomial ℤ_ring ℤ_image (λ u. half (dir_sum e u)) c d) (conj v)
       ∙ weigh_scaled ℤ_ring ℤ_image (λ e. half (dir_sum e d)) c (conj v)
 
   number-monomial : (c : ℤ) (d : Dir) → number f v (monomial c d) ≡ c *ℤ number f v (monomial (pos 1) d)

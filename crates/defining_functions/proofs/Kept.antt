@@ -56,7 +56,8 @@ pub side_at : (IsWanted : ℕ → FormalPoint → Type 0) (n : ℕ) (heights : L
     (k z : ℕ) → 1 ≤ k → k ≤ n → StandsAt (IsWanted (k - 1)) heights (slice_index_or places (k - 1) z)
 side_at IsWanted n heights places h k z some below = h.each.each (k - 1) z (omega (arith, some, below))
 
-module _ (w : List ℕ) (us : List FormalPoint) (ups : List ℕ) (ls : List FormalPoint) (lps : List ℕ) (rs : List (Vec Sizes)) (h : IsFunctions w us ups ls lps rs) where
+module _ (w : List ℕ) (us : List FormalPoint) (ups : List ℕ) (ls : List FormalPoint) (lps : List ℕ) (rs : List (Vec Sizes))
+    (h : IsFunctions w us ups ls lps rs) where
   -- at the place of the k-th edge stands the height of its corner
   pub upper_stands : (k i : ℕ) → IsPlace w k → i ≡ slice_index_or ups (k - 1) i → StandsAt (IsUpperHeight w (k - 1)) us i
   upper_stands k i place here =
@@ -76,9 +77,11 @@ module _ (w : List ℕ) (us : List FormalPoint) (ups : List ℕ) (ls : List Form
   pub kept_row : (k i : ℕ) (row : Vec Sizes) → IsPlace w k → i ≡ slice_index_or ups (k - 1) i → row ≡ slice_index_or rs i row →
       IsRow (slice_index_or us i zero_point) ls row.items
   kept_row k i row place here is_row =
-      subst (λ (r : Vec Sizes). IsRow (slice_index_or us i zero_point) ls r.items) (sym is_row) (h.each_row.each i row (upper_stands k i place here).in_range zero_point)
+      subst (λ (r : Vec Sizes). IsRow (slice_index_or us i zero_point) ls r.items) (sym is_row)
+      (h.each_row.each i row (upper_stands k i place here).in_range zero_point)
 
-  pub kept_sizes : (k l i j : ℕ) (row : Vec Sizes) (s : Sizes) → IsPlace w k → IsPlace w l → i ≡ slice_index_or ups (k - 1) i → j ≡ slice_index_or lps (l - 1) j →
+  pub kept_sizes : (k l i j : ℕ) (row : Vec Sizes) (s : Sizes) → IsPlace w k → IsPlace w l → i ≡ slice_index_or ups (k - 1) i
+      → j ≡ slice_index_or lps (l - 1) j →
       row ≡ slice_index_or rs i row → s ≡ slice_index_or row.items j s → (v : FormalPoint) → IsShift w v → s ≡ sizes_of (defining_function v w k l)
   kept_sizes k l i j row s upper lower here there is_row is_s v shift =
       is_s

@@ -1,5 +1,6 @@
 -- One side of the path, edge by edge.
-use Rattle.std.proofs.Common.{◌≡◌, ℕ, ◌+◌, ◌-◌, ◌<◌, List, [], ◌∷◌, ◌++◌, length, length-append, slice_index_or, sym, ap, subst, ◌∙◌, inl, inr, arith, Result, Ok, Err}
+use Rattle.std.proofs.Common.{◌≡◌, ℕ, ◌+◌, ◌-◌, ◌<◌, List, [], ◌∷◌, ◌++◌, length, length-append, slice_index_or, sym, ap, subst, ◌∙◌, inl, inr, arith}
+use Rattle.std.proofs.Common.{Result, Ok, Err}
 use Rattle.std.specs.Result.{OnOk}
 use Rattle.std.proofs.Math.ListN.{get_or-append}
 use Rattle.std.proofs.Math.Seq.{get_or-append_seam}
@@ -61,7 +62,8 @@ module _ (IsWanted : ℕ → FormalPoint → Type 0) where
       }
 
     -- ---- the last height again
-    pub side_again : 0 < n → ((p : FormalPoint) → IsWanted (n - 1) p → IsWanted n p) → IsSideSoFar IsWanted (n + 1) heights (places ++ (length heights - 1) ∷ [])
+    pub side_again : 0 < n → ((p : FormalPoint) → IsWanted (n - 1) p → IsWanted n p)
+        → IsSideSoFar IsWanted (n + 1) heights (places ++ (length heights - 1) ∷ [])
     side_again some onward =
         let last = h.last some in
         let stands : StandsAt (IsWanted n) heights (length heights - 1) = record { in_range = last.in_range; is = λ z. onward _ (last.is z) } in

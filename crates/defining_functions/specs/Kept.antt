@@ -57,7 +57,8 @@ abbrev pub AreRows : List FormalPoint → List FormalPoint → List (Vec Sizes) 
 AreRows uppers lowers rows = IsTable (λ i row. (p : FormalPoint) → IsRow (slice_index_or uppers i p) lowers row.items) (length uppers) rows
 
 -- what a `Functions` keeps of a word
-pub record IsFunctions (w : List ℕ) (uppers : List FormalPoint) (upper_places : List ℕ) (lowers : List FormalPoint) (lower_places : List ℕ) (rows : List (Vec Sizes)) : Type 0 where
+pub record IsFunctions (w : List ℕ) (uppers : List FormalPoint) (upper_places : List ℕ) (lowers : List FormalPoint) (lower_places : List ℕ)
+    (rows : List (Vec Sizes)) : Type 0 where
   pub word : IsWord w
   pub shift : HasShift w
   pub each_upper : IsSide (IsUpperHeight w) (length w) uppers upper_places

@@ -1,5 +1,7 @@
 -- What a difference of two lists of terms begins with, and how large it is.
-use Rattle.std.proofs.Common.{◌≡◌, ℕ, zero, suc, ◌+◌, ◌-◌, ◌*◌, ◌^◌, ◌<◌, ◌≤◌, ◌==◌, Bool, true, false, not, List, [], ◌∷◌, map, length, length-drop, take, drop, slice_index_or, ℤ, pos, ◌+ℤ◌, ◌-ℤ◌, neg_ℤ, if◌then◌else◌, refl, sym, ap, subst, ◌∙◌, arith, T, FitsSigned, to_z, of_z}
+use Rattle.std.proofs.Common.{◌≡◌, ℕ, zero, suc, ◌+◌, ◌-◌, ◌*◌, ◌^◌, ◌<◌, ◌≤◌, ◌==◌, Bool, true, false, not, List, [], ◌∷◌, map, length, length-drop}
+use Rattle.std.proofs.Common.{take, drop, slice_index_or, ℤ, pos, ◌+ℤ◌, ◌-ℤ◌, neg_ℤ, if◌then◌else◌, refl, sym, ap, subst, ◌∙◌, arith, T, FitsSigned}
+use Rattle.std.proofs.Common.{to_z, of_z}
 use Rattle.std.specs.Prelude.{unsigned_abs}
 use Rattle.std.specs.List.{All, sum_by}
 use Rattle.std.specs.Int.{w64}
@@ -210,9 +212,9 @@ module _ (ts us : List Term) (t : Term) (a b : ℕ) (leads : difference_terms ts
       done + more + f (difference_terms (rest_from a ts) (rest_from b us)) ≡ all
   next_size f g counts done more all is_more is_all =
       let rests : f (difference_terms (rest_from a ts) (rest_from b us)) ≡ f (difference_terms (drop a ts) (drop b us)) =
-          λ i. f (difference_terms (rest_is a ts i) (rest_is b us i)) in
+      λ i. f (difference_terms (rest_is a ts i) (rest_is b us i)) in
       let step : f (difference_terms ts us) ≡ g t + f (difference_terms (drop a ts) (drop b us)) =
-          ap f leads ∙ counts t (difference_terms (drop a ts) (drop b us)) in
+      ap f leads ∙ counts t (difference_terms (drop a ts) (drop b us)) in
       omega (arith, rests, step, is_more, is_all)
 
   pub next_weight : (done more all : ℕ) → more ≡ unsigned_abs t.c → done + terms_weight (difference_terms ts us) ≡ all →

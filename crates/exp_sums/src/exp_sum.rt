@@ -8,9 +8,9 @@ ghost use Rattle.exp_sums.specs.Products.{SumsAreNear};
 ghost use Rattle.exp_sums.specs.Limits.{IsKept, IsWithinLimits, weight, greatest_weight};
 
 use crate::conjugates::{put_all_conj, put_all_sines};
+use crate::differences::sizes_of_difference;
 use crate::direction::Dir;
 use crate::products::put_products;
-use crate::differences::sizes_of_difference;
 use crate::sizes::{Sizes, reach_of, weight_of};
 use crate::terms::{Term, Terms, make_room, place_of, put, put_all, put_all_negated};
 use smallvec::SmallVec;

@@ -239,3 +239,12 @@ fn measures_differences(rt: HostRuntime) -> Result<(), Fail> {
     );
     Ok(())
 }
+
+#[test]
+fn copies_sums(rt: HostRuntime) -> Result<(), Fail> {
+    let sum = sum_of(&rt, rt.alloc(), &MANY)?;
+    let copy = sum.copied(rt.alloc())?;
+    assert!(rt; copy.is_same(&sum));
+    assert_eq!(rt; copy.terms(), sum.terms());
+    Ok(())
+}

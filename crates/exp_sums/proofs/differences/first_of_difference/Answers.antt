@@ -1,6 +1,7 @@
 use Rattle.std.proofs.Common.{length, slice_index_or, pos, sym, ◌∙◌, arith}
 use Rattle.exp_sums.specs.declared.terms.Term.{Term}
-use Rattle.exp_sums.proofs.DifferenceTerms.{leads_alone, leads_whole, leads_first, leads_second, leads_both, leads_along, heads_light, difference_fits, difference_kept, empty_is, not_empty_is}
+use Rattle.exp_sums.proofs.DifferenceTerms.{leads_alone, leads_whole, leads_first, leads_second, leads_both, leads_along, heads_light}
+use Rattle.exp_sums.proofs.DifferenceTerms.{difference_fits, difference_kept, empty_is, not_empty_is}
 use Rattle.exp_sums.proofs.differences.first_of_difference.Goals as goal
 
 -- what a read past the end would give
@@ -19,7 +20,8 @@ pub overflow_sub-result : goal.overflow_sub-result
 overflow_sub-result c =
     let some = not_empty_is (length c.args.first.now) _ c.is_empty.ensures c.if-is_empty.false in
     let some' = not_empty_is (length c.args.second.now) _ c.is_empty-2.ensures c.if-is_empty-2.false in
-    difference_fits (slice_index_or c.args.first.now 0 blank).c (slice_index_or c.args.second.now 0 blank).c (heads_light c.args.first.now c.args.second.now blank blank c.requires.lists some some')
+    difference_fits (slice_index_or c.args.first.now 0 blank).c (slice_index_or c.args.second.now 0 blank).c
+    (heads_light c.args.first.now c.args.second.now blank blank c.requires.lists some some')
 
 pub returns-in-Less-clause-leads : goal.returns-in-Less-clause-leads
 returns-in-Less-clause-leads c =

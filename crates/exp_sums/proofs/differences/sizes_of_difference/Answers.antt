@@ -3,7 +3,8 @@ use Rattle.exp_sums.specs.Limits.{terms_weight}
 use Rattle.exp_sums.specs.Reach.{terms_reach}
 use Rattle.exp_sums.specs.Bend.{terms_bend}
 use Rattle.exp_sums.specs.Differences.{difference_terms}
-use Rattle.exp_sums.proofs.DifferenceTerms.{CanSubtract-rests, next_weight, next_reach, next_bend, first_light, difference_light, difference_reach, difference_bend, none_left, empty_is}
+use Rattle.exp_sums.proofs.DifferenceTerms.{CanSubtract-rests, next_weight, next_reach, next_bend, first_light, difference_light, difference_reach}
+use Rattle.exp_sums.proofs.DifferenceTerms.{difference_bend, none_left, empty_is}
 use Rattle.exp_sums.proofs.differences.sizes_of_difference.Goals as goal
 
 pub sizes_of_term-more-requires-clause-light : goal.sizes_of_term-more-requires-clause-light
@@ -15,8 +16,9 @@ pub overflow_add-sizes : goal.overflow_add-sizes
 overflow_add-sizes c =
     let n = c.first_of_difference-next in
     let next =
-        next_weight c.merge.first.now c.merge.second.now n.result.term n.result.first n.result.second n.ensures.leads
-        c.merge.sizes.weight c.sizes_of_term-more.result.weight (terms_weight (difference_terms c.args.first.now c.args.second.now)) c.sizes_of_term-more.ensures.weight c.merge.invariant.weight
+    next_weight c.merge.first.now c.merge.second.now n.result.term n.result.first n.result.second n.ensures.leads
+    c.merge.sizes.weight c.sizes_of_term-more.result.weight
+    (terms_weight (difference_terms c.args.first.now c.args.second.now)) c.sizes_of_term-more.ensures.weight c.merge.invariant.weight
     in
     omega (arith, next, difference_light c.args.first.now c.args.second.now c.requires)
 
@@ -24,8 +26,9 @@ pub overflow_add-sizes-in-merge : goal.overflow_add-sizes-in-merge
 overflow_add-sizes-in-merge c =
     let n = c.first_of_difference-next in
     let next =
-        next_reach c.merge.first.now c.merge.second.now n.result.term n.result.first n.result.second n.ensures.leads
-        c.merge.sizes.reach c.sizes_of_term-more.result.reach (terms_reach (difference_terms c.args.first.now c.args.second.now)) c.sizes_of_term-more.ensures.reach c.merge.invariant.reach
+    next_reach c.merge.first.now c.merge.second.now n.result.term n.result.first n.result.second n.ensures.leads
+    c.merge.sizes.reach c.sizes_of_term-more.result.reach
+    (terms_reach (difference_terms c.args.first.now c.args.second.now)) c.sizes_of_term-more.ensures.reach c.merge.invariant.reach
     in
     omega (arith, next, difference_reach c.args.first.now c.args.second.now c.requires)
 
@@ -33,8 +36,9 @@ pub overflow_add-sizes-in-merge-2 : goal.overflow_add-sizes-in-merge-2
 overflow_add-sizes-in-merge-2 c =
     let n = c.first_of_difference-next in
     let next =
-        next_bend c.merge.first.now c.merge.second.now n.result.term n.result.first n.result.second n.ensures.leads
-        c.merge.sizes.bend c.sizes_of_term-more.result.bend (terms_bend (difference_terms c.args.first.now c.args.second.now)) c.sizes_of_term-more.ensures.bend c.merge.invariant.bend
+    next_bend c.merge.first.now c.merge.second.now n.result.term n.result.first n.result.second n.ensures.leads
+    c.merge.sizes.bend c.sizes_of_term-more.result.bend (terms_bend
+    (difference_terms c.args.first.now c.args.second.now)) c.sizes_of_term-more.ensures.bend c.merge.invariant.bend
     in
     omega (arith, next, difference_bend c.args.first.now c.args.second.now c.requires)
 
@@ -45,9 +49,12 @@ merge-preserved c =
     let i = c.merge.invariant in
     record {
       lists = CanSubtract-rests c.merge.first.now c.merge.second.now n.result.first n.result.second i.lists;
-      weight = next_weight c.merge.first.now c.merge.second.now n.result.term n.result.first n.result.second n.ensures.leads c.merge.sizes.weight more.result.weight _ more.ensures.weight i.weight;
-      reach = next_reach c.merge.first.now c.merge.second.now n.result.term n.result.first n.result.second n.ensures.leads c.merge.sizes.reach more.result.reach _ more.ensures.reach i.reach;
-      bend = next_bend c.merge.first.now c.merge.second.now n.result.term n.result.first n.result.second n.ensures.leads c.merge.sizes.bend more.result.bend _ more.ensures.bend i.bend;
+      weight = next_weight c.merge.first.now c.merge.second.now n.result.term n.result.first n.result.second n.ensures.leads c.merge.sizes.weight
+          more.result.weight _ more.ensures.weight i.weight;
+      reach = next_reach c.merge.first.now c.merge.second.now n.result.term n.result.first n.result.second n.ensures.leads c.merge.sizes.reach
+          more.result.reach _ more.ensures.reach i.reach;
+      bend = next_bend c.merge.first.now c.merge.second.now n.result.term n.result.first n.result.second n.ensures.leads c.merge.sizes.bend
+          more.result.bend _ more.ensures.bend i.bend;
     }
 
 pub returns : goal.returns

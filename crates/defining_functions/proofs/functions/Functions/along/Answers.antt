@@ -6,13 +6,15 @@ use Rattle.defining_functions.proofs.Limits.{IsSmall-conj, shift_small}
 use Rattle.defining_functions.proofs.functions.Functions.along.Goals as goal
 
 pub upper_side-requires-clause-small : goal.upper_side-requires-clause-small
-upper_side-requires-clause-small c = subst IsSmall (sym c.in_ok-conjugate.ensures) (IsSmall-conj _ (shift_small c.args.u.now c.args.shift.now c.word.ensures.is_word c.requires))
+upper_side-requires-clause-small c = subst IsSmall (sym c.in_ok-conjugate.ensures)
+    (IsSmall-conj _ (shift_small c.args.u.now c.args.shift.now c.word.ensures.is_word c.requires))
 
 pub upper_side-requires-clause-conjugate : goal.upper_side-requires-clause-conjugate
 upper_side-requires-clause-conjugate c v shift = c.in_ok-conjugate.ensures ∙ ap conj (same_shift c.args.u.now c.args.shift.now v c.requires shift)
 
 pub lower_side-requires-clause-small : goal.lower_side-requires-clause-small
-lower_side-requires-clause-small c = subst IsSmall (sym c.in_ok-conjugate.ensures) (IsSmall-conj _ (shift_small c.args.u.now c.args.shift.now c.word.ensures.is_word c.requires))
+lower_side-requires-clause-small c = subst IsSmall (sym c.in_ok-conjugate.ensures)
+    (IsSmall-conj _ (shift_small c.args.u.now c.args.shift.now c.word.ensures.is_word c.requires))
 
 pub lower_side-requires-clause-conjugate : goal.lower_side-requires-clause-conjugate
 lower_side-requires-clause-conjugate c v shift = c.in_ok-conjugate.ensures ∙ ap conj (same_shift c.args.u.now c.args.shift.now v c.requires shift)
@@ -20,7 +22,8 @@ lower_side-requires-clause-conjugate c v shift = c.in_ok-conjugate.ensures ∙ a
 pub invariant_of-result : goal.invariant_of-result
 invariant_of-result c =
     subst
-    (λ w. IsFunctions w c.in_ok-uppers.uppers.heights.items c.in_ok-uppers.uppers.places.items c.in_ok-lowers.lowers.heights.items c.in_ok-lowers.lowers.places.items c.in_ok-rows.rows.items)
+    (λ w. IsFunctions w c.in_ok-uppers.uppers.heights.items c.in_ok-uppers.uppers.places.items c.in_ok-lowers.lowers.heights.items
+    c.in_ok-lowers.lowers.places.items c.in_ok-rows.rows.items)
     (sym (c.copied-word.ensures ∙ c.word.ensures.all))
     (record {
       word = c.word.ensures.is_word;

@@ -16,8 +16,9 @@ returns-clause-limits c =
     let v = c.upper_height.ensures.shift.0 in
     let shift = c.upper_height.ensures.shift.1 in
     let is =
-        c.in_ok-sub.ensures.ok
-        ∙ ap₂ ◌-ₚ◌ (c.in_ok-function.ensures ∙ c.upper_height.ensures.is v shift) (c.lower_height.ensures.is v shift)
-        ∙ sym (function_difference v c.args.self.now c.args.k c.args.l)
+    c.in_ok-sub.ensures.ok
+    ∙ ap₂ ◌-ₚ◌ (c.in_ok-function.ensures ∙ c.upper_height.ensures.is v shift) (c.lower_height.ensures.is v shift)
+    ∙ sym (function_difference v c.args.self.now c.args.k c.args.l)
     in
-    subst IsWithinFunctionLimits (sym is) (function_limits c.args.self.now v c.upper_height.ensures.word shift c.args.k c.args.l c.requires.upper c.requires.lower)
+    subst IsWithinFunctionLimits (sym is)
+    (function_limits c.args.self.now v c.upper_height.ensures.word shift c.args.k c.args.l c.requires.upper c.requires.lower)

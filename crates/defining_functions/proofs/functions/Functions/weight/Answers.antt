@@ -9,10 +9,12 @@ use Rattle.defining_functions.proofs.Kept.{cast_fits, cast_is}
 use Rattle.defining_functions.proofs.functions.Functions.weight.Goals as goal
 use Rattle.defining_functions.proofs.functions.Functions.weight.Goals.{After-struct_known-1}
 
-limits : (c : After-struct_known-1) (v : FormalPoint) → IsShift c.args.self.now v → IsWithinFunctionLimits (defining_function v c.args.self.now c.args.k c.args.l)
+limits : (c : After-struct_known-1) (v : FormalPoint) → IsShift c.args.self.now v
+    → IsWithinFunctionLimits (defining_function v c.args.self.now c.args.k c.args.l)
 limits c v shift = function_limits c.args.self.now v c.sizes.ensures.word shift c.args.k c.args.l c.requires.upper c.requires.lower
 
-weight_is : (c : After-struct_known-1) (v : FormalPoint) → IsShift c.args.self.now v → c.sizes.result.weight ≡ weight (defining_function v c.args.self.now c.args.k c.args.l)
+weight_is : (c : After-struct_known-1) (v : FormalPoint) → IsShift c.args.self.now v
+    → c.sizes.result.weight ≡ weight (defining_function v c.args.self.now c.args.k c.args.l)
 weight_is c v shift = ap (λ s. s.weight) (c.sizes.ensures.is v shift)
 
 at_most : (c : After-struct_known-1) (v : FormalPoint) → IsShift c.args.self.now v → weight (defining_function v c.args.self.now c.args.k c.args.l) ≤ 16384

@@ -11,7 +11,7 @@ use Rattle.exp_sums.proofs.exp_sum.ExpSum.sizes_of_difference.Goals.{After-sizes
 pub sizes_of_difference-requires : goal.sizes_of_difference-requires
 sizes_of_difference-requires c =
     let light : weight (point_of c.self.inside.terms.items) + weight (point_of c.other.inside.terms.items) ≤ greatest_weight =
-        omega (arith, c.requires, ap weight c.self.view_is, ap weight c.other.view_is)
+    omega (arith, c.requires, ap weight c.self.view_is, ap weight c.other.view_is)
     in
     let lists = kept_lists c.self.inside.terms.items c.other.inside.terms.items c.self.invariant c.other.invariant light in
     subst (λ ts. CanSubtract ts c.deref-2.result.now) (sym c.deref.ensures) (subst (CanSubtract c.self.inside.terms.items) (sym c.deref-2.ensures) lists)
