@@ -95,7 +95,8 @@ corner_is_form grid = record {
 -- ---- the next corner of a polygon
 
 -- what refuses a corner refuses the next one
-pub refuses_next : (grid count : ℕ) (corners : List (ℕ × ℕ)) (line : List ℕ) (r : Reason) → RefusesCorner grid line r → RefusesNextCorner grid count corners line r
+pub refuses_next : (grid count : ℕ) (corners : List (ℕ × ℕ)) (line : List ℕ) (r : Reason) → RefusesCorner grid line r
+    → RefusesNextCorner grid count corners line r
 refuses_next grid count corners line NotConvex p = absurd p
 refuses_next grid count corners line r p = p
 

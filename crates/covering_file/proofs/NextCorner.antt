@@ -18,7 +18,8 @@ next_least : (grid count : ℕ) (corners : List (ℕ × ℕ)) (line : List ℕ) 
 next_least grid count corners line r refuses = form_least (next_corner_form grid count corners) line r (next_corner_is_form grid count corners) refuses
 
 pub next_fails : (grid count : ℕ) (corners : List (ℕ × ℕ)) (old new : Reader) (a b : Option (List ℕ)) (refusal : Option Refusal)
-    → FailsPart (line_part (corner_form grid)).grammar old new a b refusal → FailsPart (line_part (next_corner_form grid count corners)).grammar old new a b refusal
+    → FailsPart (line_part (corner_form grid)).grammar old new a b refusal
+    → FailsPart (line_part (next_corner_form grid count corners)).grammar old new a b refusal
 next_fails grid count corners old new a b refusal fails =
     line_fails (corner_form grid) (RefusesNextCorner grid count corners) (λ l s. ¬ (RefusesNextCorner grid count corners l s)) old new a b refusal
     (λ line r refuses. next_least grid count corners line r (refuses_next grid count corners line r refuses)) fails

@@ -20,7 +20,8 @@ use Rattle.covering_file.proofs.Trees.{tree_is_whole, list_to_tree}
 use Rattle.covering_file.proofs.TreeText.{uncovered_in-split, file_text-lines}
 
 -- a sound tree leaves no box uncovered
-pub all_covered : (e : Slacks) (t : Tree) (h : Heading) (root : Square) → ((box : Square) (n : Node) → StandsAt root t box n → IsSoundNode h e box n) → uncovered_in t ≡ 0
+pub all_covered : (e : Slacks) (t : Tree) (h : Heading) (root : Square) → ((box : Square) (n : Node) → StandsAt root t box n → IsSoundNode h e box n)
+    → uncovered_in t ≡ 0
 all_covered e (leaf n is) h root sound = rw (sound_is_covered h e root n (sound root n (refl, refl))) refl
 all_covered e (split a b c d) h root sound =
     omega (

@@ -41,6 +41,7 @@ wants_after kind input (Line number reason) begins = tt
 wants_after kind input Read begins = tt
 wants_after kind input Memory begins = begins
 
-pub wants_if_err : {T : Type 0} (kind : FileKind) (input : Option (List ℕ)) (result : Result T HeadFault) → BeginsHeader kind input → IfErr result (WantsMemory kind input)
+pub wants_if_err : {T : Type 0} (kind : FileKind) (input : Option (List ℕ)) (result : Result T HeadFault) → BeginsHeader kind input
+    → IfErr result (WantsMemory kind input)
 wants_if_err kind input (Ok value) begins = tt
 wants_if_err kind input (Err fault) begins = wants_after kind input fault begins

@@ -39,7 +39,8 @@ returns-in_err-take-clause-reads g c =
       new = c.take.new.lines;
       is_new = new;
       reads = from_line c.in_err-take.field-0.0 old c.take.new.lines a (left c.take.new.src)
-          (end_fails c.in_ok-header.header old mid c.take.new.lines a b (left c.take.new.src) _ new.done c.in_ok-header.ensures.reads c.in_err-take.ensures.reads);
+          (end_fails c.in_ok-header.header old mid c.take.new.lines a b
+          (left c.take.new.src) _ new.done c.in_ok-header.ensures.reads c.in_err-take.ensures.reads);
     })
 
 pub returns-in_err-end_of_input-clause-reads : goal.returns-in_err-end_of_input-clause-reads

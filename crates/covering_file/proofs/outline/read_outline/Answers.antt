@@ -19,7 +19,8 @@ returns-in_err-grid-clause-reads g c =
     let left = g.S.Source.left in
     let p = err_from_is_err_and c.from_residual.result c.from_residual.ensures.1 in
     rw (p.1, p.2, same_refusal c.in_err-grid.field-0.0)
-    (fails_first (named_part (codes "grid") 1 MAX_GRID) counted_corners c.args.lines.now c.take.new.lines (left c.args.src.now) (left c.take.new.src) _ c.requires.reading c.in_err-grid.ensures.reads)
+    (fails_first (named_part (codes "grid") 1 MAX_GRID) counted_corners c.args.lines.now c.take.new.lines (left c.args.src.now)
+    (left c.take.new.src) _ c.requires.reading c.in_err-grid.ensures.reads)
 
 pub returns-in_err-count-clause-reads : goal.returns-in_err-count-clause-reads
 returns-in_err-count-clause-reads g c =
@@ -52,13 +53,15 @@ last_corner-requires-clause-few g c =
       c.in_ok-count.ensures.reads.taken.number,
       c.in_ok-count.ensures.reads.says.1,
       c.in_ok-corners.ensures.count,
-      corners_number c.in_ok-grid.grid c.in_ok-count.count c.in_ok-corners.corners.items c.take-2.new.lines c.read_corners.new.lines (left c.take-2.new.src) (left c.read_corners.new.src) c.in_ok-corners.ensures.corners,
+      corners_number c.in_ok-grid.grid c.in_ok-count.count c.in_ok-corners.corners.items c.take-2.new.lines c.read_corners.new.lines
+          (left c.take-2.new.src) (left c.read_corners.new.src) c.in_ok-corners.ensures.corners,
     )
 
 pub returns-clause-reads : goal.returns-clause-reads
 returns-clause-reads g c =
     let left = g.S.Source.left in
-    outline_read c.in_ok-grid.grid c.in_ok-count.count c.in_ok-corners.corners.items c.last_corner.result c.args.lines.now c.take.new.lines c.take-2.new.lines c.read_corners.new.lines c.last_corner.new.lines
+    outline_read c.in_ok-grid.grid c.in_ok-count.count c.in_ok-corners.corners.items c.last_corner.result c.args.lines.now c.take.new.lines
+    c.take-2.new.lines c.read_corners.new.lines c.last_corner.new.lines
     (left c.args.src.now) (left c.take.new.src) (left c.take-2.new.src) (left c.read_corners.new.src) (left c.last_corner.new.src)
     c.in_ok-grid.ensures.reads c.in_ok-count.ensures.reads c.in_ok-corners.ensures.corners c.in_ok-corners.ensures.count
     c.last_corner.ensures.is_polygon c.last_corner.ensures.corner c.last_corner.ensures.fails

@@ -56,7 +56,8 @@ returns-in_err-words-clause-reads g c =
     let first = first_takes kind c.first_line.result.now c.in_ok-take.field-0 old mid a b c.first_line.ensures c.in_ok-take.ensures.reads in
     let p = err_from_is_err_and c.from_residual-in_err-words.result c.from_residual-in_err-words.ensures.1 in
     rw (p.1, p.2)
-    (header_words_fail kind c.in_ok-polygon.polygon old mid c.read_outline.new.lines c.read_words.new.lines a b (left c.read_outline.new.src) (left c.read_words.new.src) _
+    (header_words_fail kind c.in_ok-polygon.polygon old mid c.read_outline.new.lines c.read_words.new.lines a b (left c.read_outline.new.src)
+    (left c.read_words.new.src) _
     c.in_ok-polygon.ensures.reads.taken.reading first c.in_ok-polygon.ensures.reads c.in_err-words.ensures.fails)
 
 pub returns-in_err-depth-clause-reads : goal.returns-in_err-depth-clause-reads
