@@ -78,12 +78,30 @@ clear_with_less_lem w box e d less clear = each_onward (IsClearFunctionOn box e)
 -- ---- shut boxes
 
 pub some_of_shut : (w : List ℕ) (box : Square) (e : ℚ) → IsShut w box e → SomeFunction w (IsShutFunctionOn box e)
-some_of_shut w box e h = record
-    { stable = h.stable; shift = h.shift; is_shift = h.is_shift; upper = h.upper; lower = h.lower; is_upper = h.is_upper; is_lower = h.is_lower; holds = h.shut }
+some_of_shut w box e h =
+    record {
+      stable = h.stable;
+      shift = h.shift;
+      is_shift = h.is_shift;
+      upper = h.upper;
+      lower = h.lower;
+      is_upper = h.is_upper;
+      is_lower = h.is_lower;
+      holds = h.shut;
+    }
 
 pub shut_of_some : (w : List ℕ) (box : Square) (e : ℚ) → SomeFunction w (IsShutFunctionOn box e) → IsShut w box e
-shut_of_some w box e h = record
-    { stable = h.stable; shift = h.shift; is_shift = h.is_shift; upper = h.upper; lower = h.lower; is_upper = h.is_upper; is_lower = h.is_lower; shut = h.holds }
+shut_of_some w box e h =
+    record {
+      stable = h.stable;
+      shift = h.shift;
+      is_shift = h.is_shift;
+      upper = h.upper;
+      lower = h.lower;
+      is_upper = h.is_upper;
+      is_lower = h.is_lower;
+      shut = h.holds;
+    }
 
 shut_function_is_not_positive : (box : Square) (e : ℚ) (p : Point) → whole 0 <ℚ e → IsInBox box p → (f : FormalPoint) → IsPositiveAt f p.x p.y
     → IsShutFunctionOn box e f → ⊥
