@@ -1,45 +1,62 @@
-ghost use Rattle.std.specs.Prelude.{◌≡◌, ◌≢◌, ◌⊎◌, IfOk, IfErr};
+//! The command `word`: the shift of a word that is read from the input.
+ghost use Rattle.std.specs.Prelude.{◌≡◌, ◌⊎◌, ℕ, List, Option, IfOk, IfErr};
 ghost use Rattle.mcb_ends.specs.Causes.{HasCause};
 ghost use Rattle.edge_words.specs.Stable.{IsStable};
 ghost use Rattle.edge_words.specs.Word.{IsWord};
 ghost use Rattle.covering_file.specs.Faults.{HasHeadCause};
-ghost use Rattle.billiards_cli.specs.Requests as requests;
+ghost use Rattle.billiards_cli.specs.Commands.Word.{ReadsWhole, IsRefusedBy, WritesShift, word_request};
+ghost use Rattle.billiards_cli.specs.Requests.{command_of};
 ghost use Rattle.billiards_cli.specs.Services.{Serves};
-ghost use Rattle.billiards_cli.specs.Verdicts.{IsWhole, IsRefusedBy, AnswersWord, WritesShift, status_after};
+
+mod shift;
+mod word_line;
 
 use crate::Status;
+use crate::args::Rest;
 use crate::refusal::write_refusal;
-use crate::shift::write_shift;
-use crate::word_line::WordLine;
+use crate::request::Request;
+use crate::status::after_writing;
 use covering_file::{HeadFault, end_of_input, take};
 use edge_words::Word;
 use mcb_ends::{Failed, LineReader, OutOfMemory, Sink, Source, put};
+use shift::write_shift;
 use std::alloc::Global;
 use unfolding::Unfolding;
+use word_line::WordLine;
+
+/// It takes no arguments.
+pub(crate) fn request<'a>(arguments: &Rest<'a>) -> Option<Request<'a>>
+    ensures { result ≡ word_request arguments.now }
+{
+    if arguments.len() == 0 {
+        Some(Request::Word)
+    } else {
+        None
+    }
+}
 
 /// Reads a word and writes its shift, or refuses the first line that offends.
 pub(crate) fn word<S: Source, K: Sink>(alloc: Global, src: &mut S, out: &mut K) -> Status
-    ensures meant { result ≢ Status.Usage }
     ensures unwritten { (result ≡ Status.ReadFault) ⊎ (result ≡ Status.OutOfMemory) → out.new ≡ out.old }
     ensures room { K.room out.new ≡ K.room out.old }
-    ensures serves { Serves requests.Word (S.left src.old) (S.left src.new)
-        (S.faults src.old) (S.faults src.new) (K.written out.old) (K.written out.new)
-        (K.faults out.old) (K.faults out.new) result }
+    ensures serves { Serves (command_of Request.Word)
+        (record { left = S.left src.old; source_faults = S.faults src.old; written = K.written out.old; sink_faults = K.faults out.old })
+        (record { left = S.left src.new; source_faults = S.faults src.new; written = K.written out.new; sink_faults = K.faults out.new })
+        result }
 {
-    match judge(alloc, src) {
+    match read_input(alloc, src) {
         Ok(word) => answer(alloc, &word, out),
-        Err(HeadFault::Line { line, reason }) => match write_refusal(line, reason, out) {
-            Ok(()) => Status::Malformed,
-            Err(Failed) => Status::WriteFault,
-        },
+        Err(HeadFault::Line { line, reason }) => {
+            after_writing(Status::Malformed, write_refusal(line, reason, out))
+        }
         Err(HeadFault::Read) => Status::ReadFault,
         Err(HeadFault::Memory) => unreachable!(),
     }
 }
 
-// Reads the one line of the input. Nothing may stand behind it.
-fn judge<S: Source>(alloc: Global, src: &mut S) -> Result<Word, HeadFault>
-    ensures whole { IfOk result (IsWhole (S.left src.old) (S.left src.new)) }
+// Reads the one line of the input. Nothing may stand after it.
+fn read_input<S: Source>(alloc: Global, src: &mut S) -> Result<Word, HeadFault>
+    ensures whole { IfOk result (ReadsWhole (S.left src.old) (S.left src.new)) }
     ensures refused { IfErr result (IsRefusedBy (S.left src.old)) }
     ensures cause { HasHeadCause (S.faults src.old) (S.faults src.new) result }
 {
@@ -52,26 +69,20 @@ fn judge<S: Source>(alloc: Global, src: &mut S) -> Result<Word, HeadFault>
 // Writes the shift of a word, or that it has none. Only a stable word takes memory.
 fn answer<K: Sink>(alloc: Global, word: &Word, out: &mut K) -> Status
     requires { IsWord word.now }
-    ensures answers { AnswersWord word.now result (K.written out.old) (K.written out.new) (K.faults out.old) (K.faults out.new) }
-    ensures unwritten { result ≡ Status.OutOfMemory → out.new ≡ out.old }
+    ensures unwritten { (result ≡ Status.ReadFault) ⊎ (result ≡ Status.OutOfMemory) → out.new ≡ out.old }
     ensures room { K.room out.new ≡ K.room out.old }
+    ensures serves { (left left' : Option (List ℕ)) (faults faults' : ℕ) → ReadsWhole left left' word.now → faults' ≡ faults
+        → Serves (command_of Request.Word)
+        (record { left = left; source_faults = faults; written = K.written out.old; sink_faults = K.faults out.old })
+        (record { left = left'; source_faults = faults'; written = K.written out.new; sink_faults = K.faults out.new })
+        result }
 {
     if !word.is_stable() {
-        return status_of(put(out, b"unstable\n"));
+        return after_writing(Status::Done, put(out, b"unstable\n"));
     }
     match Unfolding::of(alloc, word) {
-        Ok(unfolding) => status_of(write_shift_of(&unfolding, out)),
+        Ok(unfolding) => after_writing(Status::Done, write_shift_of(&unfolding, out)),
         Err(OutOfMemory) => Status::OutOfMemory,
-    }
-}
-
-// How a run ended whose answer is written.
-fn status_of(written: Result<(), Failed>) -> Status
-    ensures { result ≡ status_after written }
-{
-    match written {
-        Ok(()) => Status::Done,
-        Err(Failed) => Status::WriteFault,
     }
 }
 

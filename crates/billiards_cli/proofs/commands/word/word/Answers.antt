@@ -1,23 +1,23 @@
 use Rattle.std.proofs.Common.{refl}
-use Rattle.billiards_cli.specs.Requests.{Word}
-use Rattle.billiards_cli.specs.Texts.{refused_text}
+use Rattle.billiards_cli.specs.Commands.Word.{Offends}
+use Rattle.billiards_cli.specs.Refusals.{refused_text, RefusesLine}
 use Rattle.billiards_cli.specs.declared.status.Status.TheVariants.{Malformed}
-use Rattle.billiards_cli.proofs.Serving.{served_by_answer, served_by_failed_write}
+use Rattle.billiards_cli.proofs.Serving.{served}
+use Rattle.billiards_cli.proofs.WordAnswers.{word_answer}
 use Rattle.billiards_cli.proofs.commands.word.word.Goals as goal
 
 pub returns-in-Ok-clause-serves : goal.returns-in-Ok-clause-serves
-returns-in-Ok-clause-serves g c =
-    let s = g.S.Source in
-    let k = g.K.Sink in
-    served_by_answer (s.left c.args.src.now) (s.left c.judge.new.src) (s.faults c.args.src.now) (s.faults c.judge.new.src) (k.written c.args.out.now) (k.written c.answer.new.out) (k.faults c.args.out.now) (k.faults c.answer.new.out) c.answer.result c.in-Ok.word
-    c.in-Ok.ensures.whole c.in-Ok.ensures.cause c.answer.ensures.answers
+returns-in-Ok-clause-serves g c = c.answer.ensures.serves _ _ _ _ c.in-Ok.ensures.whole c.in-Ok.ensures.cause
 
-pub returns-in-Err-clause-serves : goal.returns-in-Err-clause-serves
-returns-in-Err-clause-serves g c =
+pub returns-in-Err-Line-clause-serves : goal.returns-in-Err-Line-clause-serves
+returns-in-Err-Line-clause-serves g c =
     let s = g.S.Source in
-    let k = g.K.Sink in
     let line = c.in-Err-Line.line in
     let reason = c.in-Err-Line.reason in
     let refused = rw c.in-Err-Line.field-0-is at c.in-Err-Line.ensures.refused in
-    served_by_failed_write Word (s.left c.args.src.now) (s.left c.judge.new.src) (s.faults c.args.src.now) (s.faults c.judge.new.src) (k.written c.args.out.now) (k.written c.write_refusal.new.out) (k.faults c.args.out.now) (k.faults c.write_refusal.new.out)
-    Malformed (refused_text line reason) (refused.0, refused.1, (line, reason, refused.2, refl)) (rw c.in-Err-Line.field-0-is at c.in-Err-Line.ensures.cause) (rw c.in-Err-Line.field-0-is at c.in-Err.ensures.text) c.in-Err.ensures.cause.failed
+    let text = refused_text line reason in
+    let right : RefusesLine (Offends refused.0) text = record { line = line; reason = reason; refused = refused.2; named = refl } in
+    served _ _ _ Malformed _ text c.write_refusal.result tt
+    (word_answer (s.left c.args.src.now) (s.left c.read_input.new.src) refused.0 Malformed text refused.1 right tt)
+    (rw c.in-Err-Line.field-0-is at c.in-Err-Line.ensures.cause)
+    (rw c.in-Err-Line.field-0-is at c.write_refusal.ensures.text) c.write_refusal.ensures.cause c.after_writing.ensures.after

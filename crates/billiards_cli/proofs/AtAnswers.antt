@@ -1,0 +1,52 @@
+-- The right answers of `at`.
+use Rattle.std.proofs.Common.{◌≡◌, ℕ, List, [], Option, Some, None, Err, refl, sym, subst, ◌∙◌, inl, inr}
+use Rattle.edge_words.specs.Reading.{Spells}
+use Rattle.edge_words.specs.Stable.{IsStable}
+use Rattle.edge_words.proofs.Digits.{digits_of-injective}
+use Rattle.gradient_bounds.specs.Clear.{IsClearAtPoint, slack}
+use Rattle.covering_file.specs.Forms.{ReadsWord}
+use Rattle.covering_file.specs.declared.reason.Reason.{Reason}
+use Rattle.covering_file.specs.declared.reason.Reason.TheVariants.{NotAWord, UnstableWord}
+use Rattle.billiards_cli.specs.Arguments.{Angles}
+use Rattle.billiards_cli.specs.Requests.{command_of}
+use Rattle.billiards_cli.specs.Services.{IsAnswer}
+use Rattle.billiards_cli.specs.declared.request.Request.TheVariants as request
+use Rattle.covering_file.specs.Input.{MayBe}
+use Rattle.billiards_cli.specs.Commands.At.{AtTriangle, IsAtAnswer, IsAtDue}
+use Rattle.billiards_cli.specs.declared.status.Status.{Status}
+use Rattle.billiards_cli.specs.declared.status.Status.TheVariants.{Done, NotShown, Malformed, OutOfMemory}
+
+-- an argument spells one word
+pub one_spelling : (argument w v : List ℕ) → Spells argument w → Spells argument v → v ≡ w
+one_spelling argument w v first second = digits_of-injective v w (sym second.digits ∙ first.digits)
+
+-- an argument that spells a stable word is not refused
+not_refused : (argument w : List ℕ) (reason : Reason) → Spells argument w → IsStable w → ReadsWord argument (Err reason) → ⊥
+not_refused argument w NotAWord spells stable none = none (w, spells)
+not_refused argument w UnstableWord spells stable unstable =
+    unstable.2 (subst (λ (x : List ℕ). IsStable x) (one_spelling argument unstable.0 w unstable.1 spells) stable)
+not_refused argument w reason spells stable none = none
+
+at_answer_is_due : (argument : List ℕ) (triangle : Angles) (status : Status) (text : List ℕ)
+    → IsAtAnswer argument triangle status text → IsAtDue argument triangle status
+at_answer_is_due argument triangle Done text answer =
+    record { done = λ v spells clear. inl refl; refused = λ none. absurd (none (answer.word, answer.spells, answer.corridor.stable)) }
+at_answer_is_due argument triangle NotShown text answer =
+    record {
+      done = λ v spells clear. absurd (answer.not_clear (subst (λ (x : List ℕ). AtTriangle triangle (λ a b. IsClearAtPoint x a b (slack 40)))
+          (one_spelling argument answer.word v answer.spells spells) clear));
+      refused = λ none. absurd (none (answer.word, answer.spells, answer.stable));
+    }
+at_answer_is_due argument triangle Malformed text answer =
+    record { done = λ v spells clear. absurd (not_refused argument v answer.reason spells clear.stable answer.refused); refused = λ none. refl }
+at_answer_is_due argument triangle OutOfMemory text answer =
+    record { done = λ v spells clear. inr refl; refused = λ none. absurd (none (answer.word, answer.spells, answer.stable)) }
+at_answer_is_due argument triangle status text answer = absurd answer
+
+-- a right answer is one that the command may give, whatever the input
+pub at_answer : (argument : List ℕ) (triangle : Angles) (left : Option (List ℕ)) (status : Status) (text : List ℕ)
+    → IsAtAnswer argument triangle status text → IsAnswer (command_of (request.At argument triangle)) left left status text
+at_answer argument triangle None status text right =
+    record { input = []; may_be = tt; right = right; due = at_answer_is_due argument triangle status text right; end = tt }
+at_answer argument triangle (Some input) status text right =
+    record { input = input; may_be = refl; right = right; due = at_answer_is_due argument triangle status text right; end = tt }

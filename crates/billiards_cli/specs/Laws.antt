@@ -1,0 +1,1 @@
+-- How much freedom right answers leave, over the definitions alone.
