@@ -11,7 +11,6 @@ use Rattle.billiards_cli.specs.Arguments.{Angles}
 use Rattle.billiards_cli.specs.Requests.{command_of}
 use Rattle.billiards_cli.specs.Services.{IsAnswer}
 use Rattle.billiards_cli.specs.declared.request.Request.TheVariants as request
-use Rattle.covering_file.specs.Input.{MayBe}
 use Rattle.billiards_cli.specs.Commands.At.{AtTriangle, IsAtAnswer, IsAtDue}
 use Rattle.billiards_cli.specs.declared.status.Status.{Status}
 use Rattle.billiards_cli.specs.declared.status.Status.TheVariants.{Done, NotShown, Malformed, OutOfMemory}

@@ -1,5 +1,5 @@
 -- The right answers of `check`.
-use Rattle.std.proofs.Common.{◌≡◌, ℕ, List, Option, refl, inl, inr}
+use Rattle.std.proofs.Common.{ℕ, List, Option, refl, inl, inr}
 use Rattle.std.specs.Bool.{OnTrue}
 use Rattle.std.specs.Io.KnownBytes.{IsAtEnd}
 use Rattle.covering_file.specs.Input.{MayBe}

@@ -1,5 +1,5 @@
 -- Where `check` is done, its right answer is the headline.
-use Rattle.std.proofs.Common.{◌≡◌, ◌↔◌, ℕ, List, [], ◌∷◌, Option, Some, None, codes, sym, subst, subst₂, ap, ◌∙◌}
+use Rattle.std.proofs.Common.{◌≡◌, ℕ, List, [], ◌∷◌, Option, Some, codes, sym, subst, subst₂, ap}
 use Rattle.std.specs.Io.KnownBytes.{IsAtEnd}
 use Rattle.covering_file.specs.Covering.{IsCovering}
 use Rattle.covering_file.specs.Input.{MayBe}

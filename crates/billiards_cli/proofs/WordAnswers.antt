@@ -1,5 +1,5 @@
 -- The right answers of `word`.
-use Rattle.std.proofs.Common.{◌≡◌, ℕ, List, Option, [], refl, sym, subst, inl, inr}
+use Rattle.std.proofs.Common.{ℕ, List, Option, [], refl, sym, subst, inl, inr}
 use Rattle.std.specs.Bool.{OnTrue}
 use Rattle.std.specs.Io.KnownBytes.{IsAtEnd}
 use Rattle.mcb_ends.specs.Lines.{Text}

@@ -5,8 +5,6 @@ use Rattle.std.specs.declared.result.Result.{Result}
 use Rattle.std.specs.Str.{bytes_eq}
 use Rattle.std.specs.Str.Parse.{digits_value}
 use Rattle.edge_words.specs.Reading.{Spells}
-use Rattle.rat_core.specs.Fraction.{ℚ}
-use Rattle.rat_core.specs.Written.{value}
 use Rattle.covering_file.specs.HeaderOffence.{SpellsWord}
 use Rattle.covering_file.specs.declared.reason.Reason.{Reason}
 use Rattle.covering_file.specs.declared.reason.Reason.TheVariants.{NotAWord}

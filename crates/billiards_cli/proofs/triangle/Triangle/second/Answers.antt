@@ -1,5 +1,3 @@
-use Rattle.std.proofs.Common.{subst}
-use Rattle.rational_polygon.specs.Point.{IsTriangle}
 use Rattle.billiards_cli.proofs.Triangles.{are_a_triangle}
 use Rattle.billiards_cli.proofs.triangle.Triangle.second.Goals as goal
 
