@@ -2,23 +2,22 @@
 use Rattle.std.proofs.Common.{◌≡◌, refl, sym, ap, ◌∙◌, subst, ℕ, ◌+◌, false, List, [], ◌∷◌, ◌++◌, length, codes, Option, Ok, Err, Result, IfErr, All, arith, length-append}
 use Rattle.std.specs.Prelude.{count_by}
 use Rattle.std.proofs.lemmas.List.Elements.{All-head, All-tail}
-use Rattle.rational_polygon.specs.Square.{Square, unit_square}
+use Rattle.rational_polygon.specs.Square.{unit_square}
 use Rattle.gradient_bounds.specs.Clear.{slack}
 use Rattle.mcb_ends.specs.Reader.{Reader}
 use Rattle.covering_file.specs.declared.fault.HeadFault.{HeadFault}
 use Rattle.covering_file.specs.declared.fault.HeadFault.TheVariants.{Line, Read, Memory}
 use Rattle.covering_file.specs.declared.node.Node.{Node}
-use Rattle.covering_file.specs.declared.node.Node.TheVariants as node
 use Rattle.covering_file.specs.declared.reason.Reason.TheVariants.{EndLine}
 use Rattle.covering_file.specs.Forms.{ReadsWhole}
 use Rattle.covering_file.specs.Header.{Heading}
-use Rattle.covering_file.specs.Node.{end_line}
+use Rattle.covering_file.specs.Node.{is_uncovered, end_line}
 use Rattle.covering_file.specs.JobOffence.{EndHas, AfterHas}
 use Rattle.covering_file.specs.DueBoxes.{due_boxes}
-use Rattle.covering_file.specs.Sound.{IsSoundNode}
-use Rattle.covering_file.specs.FileOffence.{AtEnd, AfterEnd, file_grammar, tree_lines, due_end, is_uncovered, MayPass}
+use Rattle.covering_file.specs.FileOffence.{AtEnd, AfterEnd, file_grammar, tree_lines, due_end, MayPass}
 use Rattle.covering_file.specs.Offence.{IsLeast}
 use Rattle.covering_file.specs.Taking.{TakesLines, StopsBehind, ReadsDue, Ends, FailsBehind}
+use Rattle.covering_file.proofs.NodeLines.{sound_is_covered}
 use Rattle.covering_file.proofs.Trees.{each_stands}
 use Rattle.covering_file.proofs.Offending.{refused_least}
 use Rattle.covering_file.proofs.JobParts.{end_least, after_least}
@@ -26,12 +25,6 @@ use Rattle.covering_file.proofs.Parts.{takes_as, fails_later}
 use Rattle.cover_checker.specs.Steps.{TreeFails, EndFails}
 
 -- ---- no node that may pass is uncovered
-
-sound_is_covered : (h : Heading) (box : Square) (n : Node) → IsSoundNode h (slack 60) box n → is_uncovered n ≡ false
-sound_is_covered h box node.Split sound = refl
-sound_is_covered h box node.Outside sound = refl
-sound_is_covered h box (node.Shown i) sound = refl
-sound_is_covered h box node.Uncovered sound = absurd sound
 
 count_none : (nodes : List Node) → All (λ n. is_uncovered n ≡ false) nodes → count_by is_uncovered nodes ≡ 0
 count_none [] none = refl
@@ -41,7 +34,7 @@ count_none (n ∷ nodes) none =
 
 pub is_complete : (limit : ℕ) (h : Heading) (nodes : List Node) → MayPass limit h nodes → due_end nodes ≡ codes "end complete"
 is_complete limit h nodes pass =
-    ap (λ (n : ℕ). end_line n) (count_none nodes (each_stands (λ n. is_uncovered n ≡ false) nodes (unit_square ∷ []) pass.due (λ box n stands. sound_is_covered h box n (pass.each box n stands))))
+    ap (λ (n : ℕ). end_line n) (count_none nodes (each_stands (λ n. is_uncovered n ≡ false) nodes (unit_square ∷ []) pass.due (λ box n stands. sound_is_covered h (slack 60) box n (pass.each box n stands))))
 
 -- ---- the end line
 

@@ -18,7 +18,7 @@ use Rattle.covering_file.specs.declared.node.Node.{Node}
 use Rattle.covering_file.specs.declared.node.Node.TheVariants.{Split, Outside, Shown, Uncovered}
 use Rattle.covering_file.specs.Header.{Heading}
 use Rattle.covering_file.specs.Faults.{word_at}
-use Rattle.covering_file.specs.Tree.{outside, shown, uncovered, Tree, leaf, split, StandsAt}
+use Rattle.covering_file.specs.Tree.{Tree, leaf, split, StandsAt}
 use Rattle.covering_file.specs.Sound.{IsSoundNode}
 use Rattle.covering_file.specs.Laws.{SoundCovers, SoundIsCovered, CoveredEverywhere, SureIsSound}
 
@@ -41,9 +41,10 @@ abbrev IsSoundFrom : Heading → ℚ → Square → Tree → Type 0
 IsSoundFrom h e root t = (box : Square) (node : Node) → StandsAt root t box node → IsSoundNode h e box node
 
 found : (t : Tree) (h : Heading) (e : ℚ) (root : Square) (p : Point) → IsSoundFrom h e root t → IsInPolygon h.outline p → IsInBox root p → IsFound root t p
-found (leaf outside) h e root p sound of_polygon inside = absurd (apart_has_none root h.outline p (sound root Outside (refl, refl)) of_polygon inside)
-found (leaf (shown i)) h e root p sound of_polygon inside = record { box = root; word = i; stands = (refl, refl); inside = inside }
-found (leaf uncovered) h e root p sound of_polygon inside = absurd (sound root Uncovered (refl, refl))
+found (leaf Split is) h e root p sound of_polygon inside = absurd is
+found (leaf Outside is) h e root p sound of_polygon inside = absurd (apart_has_none root h.outline p (sound root Outside (refl, refl)) of_polygon inside)
+found (leaf (Shown i) is) h e root p sound of_polygon inside = record { box = root; word = i; stands = (refl, refl); inside = inside }
+found (leaf Uncovered is) h e root p sound of_polygon inside = absurd (sound root Uncovered (refl, refl))
 found (split a b c d) h e root p sound of_polygon inside =
     let part = some_child root p inside in
     elim (one_of_four part.0 (λ k. IsInBox (child root k) p) part.1 part.2) [

@@ -27,4 +27,5 @@ pub mod Covers
 pub mod NodeLines
 pub mod OneFile
 pub mod Sure
+mod Stack
 pub mod Accepted

@@ -1,5 +1,5 @@
 -- The lines of nodes: they are short, tell the node, and offend at no box where the node may surely stand.
-use Rattle.std.proofs.Common.{◌≡◌, inl, inr, ℕ, ◌<◌, ◌≤◌, List, length, get_or, decimal, codes, refl, ap, subst, arith}
+use Rattle.std.proofs.Common.{◌≡◌, inl, inr, ℕ, ◌<◌, ◌≤◌, List, length, get_or, decimal, codes, false, refl, ap, subst, arith}
 use Rattle.rat_core.specs.Fraction.{ℚ}
 use Rattle.rational_polygon.specs.Square.{Square}
 use Rattle.gradient_bounds.specs.Clear.{slack}
@@ -10,7 +10,7 @@ use Rattle.covering_file.specs.declared.reason.Reason.{Reason}
 use Rattle.covering_file.specs.declared.reason.Reason.TheVariants as reason
 use Rattle.covering_file.specs.Text.{space}
 use Rattle.covering_file.specs.Header.{Heading}
-use Rattle.covering_file.specs.Node.{node_line, IsNode, NodeHasForm}
+use Rattle.covering_file.specs.Node.{is_uncovered, node_line, IsNode, NodeHasForm}
 use Rattle.covering_file.specs.Sound.{IsSoundNode}
 use Rattle.covering_file.specs.FileOffence.{NodeCanHave}
 use Rattle.covering_file.proofs.Lines.{lacks_byte, two_fields-one, two_fields-short, decimal-no_space, one_number}
@@ -44,10 +44,12 @@ node_line-form (Shown i) =
 node_line-form Uncovered = inr (inr (inl refl))
 
 pub sound_is_node : (h : Heading) (e : ℚ) (box : Square) (n : Node) → IsSoundNode h e box n → IsNode (length h.words) n
-sound_is_node h e box Split sound = tt
-sound_is_node h e box Outside sound = tt
 sound_is_node h e box (Shown i) sound = sound.0
-sound_is_node h e box Uncovered sound = tt
+sound_is_node h e box n sound = tt
+
+pub sound_is_covered : (h : Heading) (e : ℚ) (box : Square) (n : Node) → IsSoundNode h e box n → is_uncovered n ≡ false
+sound_is_covered h e box Uncovered sound = absurd sound
+sound_is_covered h e box n sound = refl
 
 -- the node of a line
 pub same_node : (h : Heading) (e : ℚ) (box : Square) (m n : Node) → length h.words ≤ 32 → IsSoundNode h e box m → node_line m ≡ node_line n → IsSoundNode h e box n

@@ -10,12 +10,12 @@ use Rattle.covering_file.specs.declared.node.Node.TheVariants.{Split}
 use Rattle.covering_file.specs.Text.{with_newline}
 use Rattle.covering_file.specs.Header.{Heading, header_text}
 use Rattle.covering_file.specs.Node.{node_line, IsNode, end_line}
-use Rattle.covering_file.specs.Tree.{Tree, leaf, split, leaf_node, preorder, StandsAt, tree_text, uncovered_in, file_text}
+use Rattle.covering_file.specs.Tree.{Tree, leaf, split, preorder, StandsAt, tree_text, uncovered_in, file_text}
 use Rattle.covering_file.specs.Laws.{FileIsOne, AcceptedIsOne}
 use Rattle.covering_file.proofs.Lines.{parted}
 use Rattle.covering_file.proofs.NodeLines.{node_line-one, one_node, sound_is_node}
 use Rattle.covering_file.proofs.OneHeader.{header_is_one}
-use Rattle.covering_file.proofs.Trees.{regroup, one_leaf, leaf_is_no_split, same_split}
+use Rattle.covering_file.proofs.Trees.{regroup, same_leaf, leaf_is_no_split, same_split}
 
 -- the line of a node of a file, and what stands behind it
 node_in_front : (words : ℕ) → words ≤ 32 → (m n : Node) (x y : List ℕ) → IsNode words m → with_newline (node_line m) ++ x ≡ with_newline (node_line n) ++ y → (m ≡ n) × (x ≡ y)
@@ -34,17 +34,17 @@ all_right P xs ys all k d within = subst P (get_or-append-add xs ys k d) (all (l
 -- ---- a tree, and what stands behind it
 
 tree_in_front : (words : ℕ) → words ≤ 32 → (s t : Tree) (x y : List ℕ) → All (IsNode words) (preorder s) → tree_text s ++ x ≡ tree_text t ++ y → (s ≡ t) × (x ≡ y)
-tree_in_front words few (leaf l) (leaf m) x y each same =
-    let node = node_in_front words few (leaf_node l) (leaf_node m) x y (All-head (IsNode words) (leaf_node l) [] each) same in
-    (ap (λ (k : _). leaf k) (one_leaf l m node.0), node.1)
-tree_in_front words few (leaf l) (split a b c d) x y each same =
+tree_in_front words few (leaf m of_m) (leaf n of_n) x y each same =
+    let node = node_in_front words few m n x y (All-head (IsNode words) m [] each) same in
+    (same_leaf m n of_m of_n node.0, node.1)
+tree_in_front words few (leaf m of_m) (split a b c d) x y each same =
     let behind = (((tree_text a ++ tree_text b) ++ tree_text c) ++ tree_text d) ++ y in
-    let node = node_in_front words few (leaf_node l) Split x behind (All-head (IsNode words) (leaf_node l) [] each) same in
-    absurd (leaf_is_no_split l node.0)
-tree_in_front words few (split a b c d) (leaf m) x y each same =
+    let node = node_in_front words few m Split x behind (All-head (IsNode words) m [] each) same in
+    absurd (leaf_is_no_split m of_m node.0)
+tree_in_front words few (split a b c d) (leaf n of_n) x y each same =
     let behind = (((tree_text a ++ tree_text b) ++ tree_text c) ++ tree_text d) ++ x in
-    let node = node_in_front words few Split (leaf_node m) behind y tt same in
-    absurd (leaf_is_no_split m (sym node.0))
+    let node = node_in_front words few Split n behind y tt same in
+    absurd (leaf_is_no_split n of_n (sym node.0))
 tree_in_front words few (split a b c d) (split a' b' c' d') x y each same =
     let behind = (((tree_text a ++ tree_text b) ++ tree_text c) ++ tree_text d) ++ x in
     let behind' = (((tree_text a' ++ tree_text b') ++ tree_text c') ++ tree_text d') ++ y in
@@ -80,7 +80,7 @@ file_is_one g h s t x y heading heading' nodes same =
 
 -- what holds of each node that stands in a tree holds of all its nodes
 all_standing : (P : Node → Type 0) (root : Square) (t : Tree) → ((box : Square) (node : Node) → StandsAt root t box node → P node) → All P (preorder t)
-all_standing P root (leaf l) each = All-cons P (leaf_node l) [] (each root (leaf_node l) (refl, refl)) (All-nil P)
+all_standing P root (leaf n is) each = All-cons P n [] (each root n (refl, refl)) (All-nil P)
 all_standing P root (split a b c d) each =
     let first = all_standing P (child root 0) a (λ box node stands. each box node (inr (inl stands))) in
     let second = all_standing P (child root 1) b (λ box node stands. each box node (inr (inr (inl stands)))) in

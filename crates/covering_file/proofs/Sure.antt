@@ -8,13 +8,12 @@ use Rattle.gradient_bounds.specs.Clear.{slack}
 use Rattle.mcb_ends.specs.Lines.{newline, IsShortLine}
 use Rattle.covering_file.specs.declared.file_kind.FileKind.TheVariants.{Cover}
 use Rattle.covering_file.specs.declared.node.Node.{Node}
-use Rattle.covering_file.specs.declared.node.Node.TheVariants as node
 use Rattle.covering_file.specs.declared.reason.Reason.{Reason}
 use Rattle.covering_file.specs.Text.{with_newline, text_of, BeginsWith}
 use Rattle.covering_file.specs.Header.{Heading, IsHeading, header_lines, header_text}
 use Rattle.covering_file.specs.JobOffence.{EndHas}
 use Rattle.covering_file.specs.Node.{node_line, end_line, IsNode}
-use Rattle.covering_file.specs.Tree.{outside, shown, uncovered, Tree, leaf, split, preorder, StandsAt, tree_text, uncovered_in, file_text}
+use Rattle.covering_file.specs.Tree.{Tree, leaf, split, preorder, StandsAt, tree_text, uncovered_in, file_text}
 use Rattle.covering_file.specs.DueBoxes.{due_boxes, AreDue, StandsIn}
 use Rattle.covering_file.specs.Sound.{IsSoundNode, IsSure}
 use Rattle.covering_file.specs.Offence.{HaveReason, IsLeast}
@@ -25,8 +24,8 @@ use Rattle.covering_file.proofs.OneHeader.{header_is_one}
 use Rattle.covering_file.proofs.NoOffence.{header_never_offends, end_lacks, after_lacks}
 use Rattle.covering_file.proofs.Trees.{each_stands, stands_next, tree_is_whole, list_to_tree}
 use Rattle.covering_file.proofs.FrontLines.{no_reason, text_of-append}
-use Rattle.covering_file.proofs.TreeText.{uncovered_in-counted, tree_text-end}
-use Rattle.covering_file.proofs.NodeLines.{node_line-one, node_line-short, one_node, sound_is_node, sure_lacks}
+use Rattle.covering_file.proofs.TreeText.{uncovered_in-split, tree_text-end}
+use Rattle.covering_file.proofs.NodeLines.{node_line-one, node_line-short, one_node, sound_is_node, sound_is_covered, sure_lacks}
 
 -- ---- nodes that may pass, before a line of a file with all the nodes of a tree
 
@@ -69,12 +68,11 @@ begins line lines bytes short is = (text_of lines, (short, sym is ∙ append_ass
 -- ---- what a sure tree says
 
 pub all_covered : (e : ℚ) (t : Tree) (h : Heading) (root : Square) → ((box : Square) (n : Node) → StandsAt root t box n → IsSoundNode h e box n) → uncovered_in t ≡ 0
-all_covered e (leaf outside) h root sound = refl
-all_covered e (leaf (shown i)) h root sound = refl
-all_covered e (leaf uncovered) h root sound = absurd (sound root node.Uncovered (refl, refl))
+all_covered e (leaf n is) h root sound = rw (sound_is_covered h e root n (sound root n (refl, refl))) refl
 all_covered e (split a b c d) h root sound =
     omega (
       arith,
+      uncovered_in-split a b c d,
       all_covered e a h (child root 0) (λ box n s. sound box n (inr (inl s))),
       all_covered e b h (child root 1) (λ box n s. sound box n (inr (inr (inl s)))),
       all_covered e c h (child root 2) (λ box n s. sound box n (inr (inr (inr (inl s))))),
@@ -89,7 +87,7 @@ record IsSureTree (limit : ℕ) (h : Heading) (t : Tree) : Type 0 where
 
 sure_end : (limit : ℕ) (h : Heading) (t : Tree) → IsSureTree limit h t → IsShortLine (due_end (preorder t))
 sure_end limit h t tree =
-    let none = sym (uncovered_in-counted t) ∙ all_covered (slack 40) t h unit_square tree.sure in
+    let none = all_covered (slack 40) t h unit_square tree.sure in
     let complete : IsShortLine (codes "end complete") = record { one = lacks_byte newline (codes "end complete") refl; short = omega arith } in
     subst (λ (n : ℕ). IsShortLine (end_line n)) (sym none) complete
 

@@ -1,5 +1,5 @@
 -- The text of a tree and of a file, line by line.
-use Rattle.std.proofs.Common.{◌≡◌, ℕ, ◌+◌, List, [], ◌∷◌, ◌++◌, map, refl, sym, ap, ◌∙◌, append_assoc}
+use Rattle.std.proofs.Common.{◌≡◌, ℕ, ◌+◌, List, [], ◌∷◌, ◌++◌, map, sym, ap, ◌∙◌, append_assoc}
 use Rattle.std.proofs.lemmas.List.{append-nil, map-append}
 use Rattle.std.proofs.lemmas.List.Sums.{sum_by-append}
 use Rattle.std.specs.Prelude.{cond, count_by}
@@ -8,10 +8,10 @@ use Rattle.covering_file.specs.declared.node.Node.{Node}
 use Rattle.covering_file.specs.declared.node.Node.TheVariants.{Split}
 use Rattle.covering_file.specs.Text.{with_newline, text_of}
 use Rattle.covering_file.specs.Header.{Heading, header_lines, header_text}
-use Rattle.covering_file.specs.Node.{node_line, end_line}
-use Rattle.covering_file.specs.Tree.{outside, shown, uncovered, Tree, leaf, split, preorder, tree_text, uncovered_in, file_text}
+use Rattle.covering_file.specs.Node.{is_uncovered, node_line, end_line}
+use Rattle.covering_file.specs.Tree.{Tree, leaf, split, preorder, tree_text, uncovered_in, file_text}
 use Rattle.covering_file.proofs.FrontLines.{text_of-append}
-use Rattle.covering_file.specs.FileOffence.{is_uncovered, due_end, AfterEnd, lines_before}
+use Rattle.covering_file.specs.FileOffence.{due_end, AfterEnd, lines_before}
 
 abbrev nodes_text : List Node → List ℕ
 nodes_text nodes = text_of (map node_line nodes)
@@ -25,9 +25,7 @@ nodes_text-four a b c d =
     ∙ ap (λ (text : List ℕ). text ++ nodes_text d) (nodes_text-append (a ++ b) c ∙ ap (λ (text : List ℕ). text ++ nodes_text c) (nodes_text-append a b))
 
 pub tree_text-lines : (t : Tree) → tree_text t ≡ text_of (map node_line (preorder t))
-tree_text-lines (leaf outside) = sym (append-nil _)
-tree_text-lines (leaf (shown i)) = sym (append-nil _)
-tree_text-lines (leaf uncovered) = sym (append-nil _)
+tree_text-lines (leaf n is) = sym (append-nil (with_newline (node_line n)))
 tree_text-lines (split a b c d) =
     let parts : ((tree_text a ++ tree_text b) ++ tree_text c) ++ tree_text d ≡ nodes_text (((preorder a ++ preorder b) ++ preorder c) ++ preorder d) =
     rw (tree_text-lines a, tree_text-lines b, tree_text-lines c, tree_text-lines d) (sym (nodes_text-four (preorder a) (preorder b) (preorder c) (preorder d))) in
@@ -39,22 +37,13 @@ counted-four a b c d =
     sum_by-append one ((a ++ b) ++ c) d
     ∙ ap (λ k. k + count_by is_uncovered d) (sum_by-append one (a ++ b) c ∙ ap (λ k. k + count_by is_uncovered c) (sum_by-append one a b))
 
-pub uncovered_in-counted : (t : Tree) → uncovered_in t ≡ count_by is_uncovered (preorder t)
-uncovered_in-counted (leaf outside) = refl
-uncovered_in-counted (leaf (shown i)) = refl
-uncovered_in-counted (leaf uncovered) = refl
-uncovered_in-counted (split a b c d) =
-    rw (uncovered_in-counted a, uncovered_in-counted b, uncovered_in-counted c, uncovered_in-counted d) (sym (counted-four (preorder a) (preorder b) (preorder c) (preorder d)))
-
--- the end line of a tree is the one that is due after its nodes
-pub end_line-due : (t : Tree) → end_line (uncovered_in t) ≡ due_end (preorder t)
-end_line-due t = ap (λ n. end_line n) (uncovered_in-counted t)
+pub uncovered_in-split : (a b c d : Tree) → uncovered_in (split a b c d) ≡ ((uncovered_in a + uncovered_in b) + uncovered_in c) + uncovered_in d
+uncovered_in-split a b c d = counted-four (preorder a) (preorder b) (preorder c) (preorder d)
 
 -- the text behind a header
 pub tree_text-end : (t : Tree) → tree_text t ++ with_newline (end_line (uncovered_in t)) ≡ text_of (map node_line (preorder t) ++ due_end (preorder t) ∷ [])
 tree_text-end t =
     ap (λ (text : List ℕ). text ++ with_newline (end_line (uncovered_in t))) (tree_text-lines t)
-    ∙ ap (λ (line : List ℕ). text_of (map node_line (preorder t)) ++ with_newline line) (end_line-due t)
     ∙ ap (λ (text : List ℕ). text_of (map node_line (preorder t)) ++ text) (sym (append-nil (with_newline (due_end (preorder t)))))
     ∙ sym (text_of-append (map node_line (preorder t)) (due_end (preorder t) ∷ []))
 

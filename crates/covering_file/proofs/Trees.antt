@@ -5,14 +5,38 @@ use Rattle.std.proofs.lemmas.List.Elements.{All-nil, All-cons}
 use Rattle.std.specs.List.{All, fold, flat_map}
 use Rattle.rational_polygon.specs.Square.{Square, unit_square, child}
 use Rattle.covering_file.specs.declared.node.Node.{Node}
-use Rattle.covering_file.specs.declared.node.Node.TheVariants.{Split, Outside, Shown, Uncovered}
-use Rattle.covering_file.specs.Tree.{Leaf, outside, shown, uncovered, Tree, leaf, split, leaf_node, preorder, StandsAt}
+use Rattle.covering_file.specs.declared.node.Node.TheVariants.{Split}
+use Rattle.covering_file.specs.Node.{IsLeaf}
+use Rattle.covering_file.specs.Tree.{Tree, leaf, split, preorder, StandsAt}
 use Rattle.covering_file.specs.DueBoxes.{children, due_after, due_boxes, AreDue, AreWhole, StandsIn}
 use Rattle.covering_file.specs.Laws.{WholeIsTree, TreeIsOne, StandingIsDue}
 
 -- the lists of four trees, and what stands behind them
 pub regroup : {A : Type 0} (a b c d e : List A) → (((a ++ b) ++ c) ++ d) ++ e ≡ a ++ (b ++ (c ++ (d ++ e)))
 regroup a b c d e = simp append_assoc
+
+-- ---- leaves
+
+-- a leaf takes its box away
+pub due_after-leaf : (box : Square) (due : List Square) (n : Node) → IsLeaf n → due_after (box ∷ due) n ≡ due
+due_after-leaf box due Split is = absurd is
+due_after-leaf box due n is = refl
+
+pub split_or_leaf : (n : Node) → (n ≡ Split) ⊎ IsLeaf n
+split_or_leaf Split = inl refl
+split_or_leaf n = inr tt
+
+pub leaf_is_no_split : (n : Node) → IsLeaf n → n ≡ Split → ⊥
+leaf_is_no_split n is same = subst IsLeaf same is
+
+same_leaf_of : (n : Node) (is is' : IsLeaf n) → leaf n is ≡ leaf n is'
+same_leaf_of Split is is' = absurd is
+same_leaf_of n is is' = refl
+
+pub same_leaf : (m n : Node) (is : IsLeaf m) (is' : IsLeaf n) → m ≡ n → leaf m is ≡ leaf n is'
+same_leaf m n is is' same =
+    let P : Node → Type 0 = λ k. (is' : IsLeaf k) → leaf m is ≡ leaf k is' in
+    subst P same (same_leaf_of m is) is'
 
 -- ---- a box is due before each node, where the boxes `due` are before the first
 
@@ -49,9 +73,8 @@ stands_next (m ∷ nodes) (first ∷ due) n more box others is = inr (stands_nex
 
 -- the nodes of a tree, and then others
 due_in_tree : (t : Tree) (box : Square) (due : List Square) (nodes : List Node) → AreDueFrom due nodes → AreDueFrom (box ∷ due) (preorder t ++ nodes)
-due_in_tree (leaf outside) box due nodes are = due_before box due Outside nodes are
-due_in_tree (leaf (shown i)) box due nodes are = due_before box due (Shown i) nodes are
-due_in_tree (leaf uncovered) box due nodes are = due_before box due Uncovered nodes are
+due_in_tree (leaf n is) box due nodes are =
+    due_before box due n nodes (subst (λ (boxes : List Square). AreDueFrom boxes nodes) (sym (due_after-leaf box due n is)) are)
 due_in_tree (split a b c d) box due nodes are =
     let from_d = due_in_tree d (child box 3) due nodes are in
     let from_c = due_in_tree c (child box 2) (child box 3 ∷ due) (preorder d ++ nodes) from_d in
@@ -62,9 +85,7 @@ due_in_tree (split a b c d) box due nodes are =
 
 -- a tree takes its box away
 pub fold-preorder : (t : Tree) (box : Square) (due : List Square) (nodes : List Node) → fold due_after (box ∷ due) (preorder t ++ nodes) ≡ fold due_after due nodes
-fold-preorder (leaf outside) box due nodes = refl
-fold-preorder (leaf (shown i)) box due nodes = refl
-fold-preorder (leaf uncovered) box due nodes = refl
+fold-preorder (leaf n is) box due nodes = ap (λ (boxes : List Square). fold due_after boxes nodes) (due_after-leaf box due n is)
 fold-preorder (split a b c d) box due nodes =
     ap (λ (ns : List Node). fold due_after (children box ++ due) ns) (regroup (preorder a) (preorder b) (preorder c) (preorder d) nodes)
     ∙ fold-preorder a (child box 0) (child box 1 ∷ child box 2 ∷ child box 3 ∷ due) (preorder b ++ (preorder c ++ (preorder d ++ nodes)))
@@ -89,11 +110,11 @@ record Forest (count : ℕ) (nodes : List Node) : Type 0 where
   size : length trees ≡ count
   list : flat_map preorder trees ≡ nodes
 
-planted : (l : Leaf) (count : ℕ) (nodes : List Node) → Forest count nodes → Forest (suc count) (leaf_node l ∷ nodes)
-planted l count nodes f = record {
-  trees = leaf l ∷ f.trees;
+planted : (n : Node) → IsLeaf n → (count : ℕ) (nodes : List Node) → Forest count nodes → Forest (suc count) (n ∷ nodes)
+planted n is count nodes f = record {
+  trees = leaf n is ∷ f.trees;
   size = ap (λ k. suc k) f.size;
-  list = ap (λ (ns : List Node). leaf_node l ∷ ns) f.list;
+  list = ap (λ (ns : List Node). n ∷ ns) f.list;
 }
 
 joined : (ts : List Tree) (count : ℕ) (nodes : List Node) → length ts ≡ suc (suc (suc (suc count))) → flat_map preorder ts ≡ nodes → Forest (suc count) (Split ∷ nodes)
@@ -111,9 +132,7 @@ forest (n ∷ nodes) [] are none = absurd (are 0 (omega arith) refl)
 forest (Split ∷ nodes) (box ∷ due) are none =
     let f = forest nodes (children box ++ due) (due_behind (box ∷ due) Split nodes are) none in
     joined f.trees (length due) nodes f.size f.list
-forest (Outside ∷ nodes) (box ∷ due) are none = planted outside (length due) nodes (forest nodes due (due_behind (box ∷ due) Outside nodes are) none)
-forest (Shown i ∷ nodes) (box ∷ due) are none = planted (shown i) (length due) nodes (forest nodes due (due_behind (box ∷ due) (Shown i) nodes are) none)
-forest (Uncovered ∷ nodes) (box ∷ due) are none = planted uncovered (length due) nodes (forest nodes due (due_behind (box ∷ due) Uncovered nodes are) none)
+forest (n ∷ nodes) (box ∷ due) are none = planted n tt (length due) nodes (forest nodes due (due_behind (box ∷ due) n nodes are) none)
 
 alone : (ts : List Tree) (nodes : List Node) → length ts ≡ 1 → flat_map preorder ts ≡ nodes → (t : Tree) × (preorder t ≡ nodes)
 alone (t ∷ []) nodes size list = (t, sym (append-nil (preorder t)) ∙ list)
@@ -129,31 +148,20 @@ whole_is_tree nodes = (whole_has_tree nodes, λ tree. subst AreWhole tree.1 (tre
 
 -- ---- one tree
 
-pub one_leaf : (l m : Leaf) → leaf_node l ≡ leaf_node m → l ≡ m
-one_leaf outside outside is = refl
-one_leaf (shown i) (shown j) is = cc
-one_leaf uncovered uncovered is = refl
-one_leaf l m is = cc
-
-pub leaf_is_no_split : (l : Leaf) → leaf_node l ≡ Split → ⊥
-leaf_is_no_split outside is = cc
-leaf_is_no_split (shown i) is = cc
-leaf_is_no_split uncovered is = cc
-
 pub same_split : (a b c d a' b' c' d' : Tree) → a ≡ a' → b ≡ b' → c ≡ c' → d ≡ d' → split a b c d ≡ split a' b' c' d'
 same_split a b c d a' b' c' d' p q r s = cc
 
 unique : (s t : Tree) (xs ys : List Node) → preorder s ++ xs ≡ preorder t ++ ys → (s ≡ t) × (xs ≡ ys)
-unique (leaf l) (leaf m) xs ys is =
-    let head : leaf_node l ≡ leaf_node m = cc in
+unique (leaf m of_m) (leaf n of_n) xs ys is =
+    let head : m ≡ n = cc in
     let rest : xs ≡ ys = cc in
-    (ap (λ (k : Leaf). leaf k) (one_leaf l m head), rest)
-unique (leaf l) (split a b c d) xs ys is =
-    let head : leaf_node l ≡ Split = cc in
-    absurd (leaf_is_no_split l head)
-unique (split a b c d) (leaf m) xs ys is =
-    let head : leaf_node m ≡ Split = cc in
-    absurd (leaf_is_no_split m head)
+    (same_leaf m n of_m of_n head, rest)
+unique (leaf m of_m) (split a b c d) xs ys is =
+    let head : m ≡ Split = cc in
+    absurd (leaf_is_no_split m of_m head)
+unique (split a b c d) (leaf n of_n) xs ys is =
+    let head : n ≡ Split = cc in
+    absurd (leaf_is_no_split n of_n head)
 unique (split a b c d) (split a' b' c' d') xs ys is =
     let rest : (((preorder a ++ preorder b) ++ preorder c) ++ preorder d) ++ xs ≡ (((preorder a' ++ preorder b') ++ preorder c') ++ preorder d') ++ ys = cc in
     let flat = sym (regroup (preorder a) (preorder b) (preorder c) (preorder d) xs) ∙ rest ∙ regroup (preorder a') (preorder b') (preorder c') (preorder d') ys in
@@ -176,9 +184,8 @@ behind_split a b c d root due nodes box node stands =
     inr (subst (λ (ns : List Node). StandsIn (children root ++ due) ns box node) (sym (regroup (preorder a) (preorder b) (preorder c) (preorder d) nodes)) stands)
 
 in_list : (t : Tree) (root : Square) (due : List Square) (nodes : List Node) (box : Square) (node : Node) → StandsAt root t box node ⊎ StandsIn due nodes box node → StandsIn (root ∷ due) (preorder t ++ nodes) box node
-in_list (leaf outside) root due nodes box node stands = stands
-in_list (leaf (shown i)) root due nodes box node stands = stands
-in_list (leaf uncovered) root due nodes box node stands = stands
+in_list (leaf n is) root due nodes box node stands =
+    subst (λ (boxes : List Square). ((box ≡ root) × (node ≡ n)) ⊎ StandsIn boxes nodes box node) (sym (due_after-leaf root due n is)) stands
 in_list (split a b c d) root due nodes box node stands =
     let in_d = λ (s : StandsAt (child root 3) d box node ⊎ StandsIn due nodes box node). in_list d (child root 3) due nodes box node s in
     let in_c = λ (s : StandsAt (child root 2) c box node ⊎ StandsIn (child root 3 ∷ due) (preorder d ++ nodes) box node). in_list c (child root 2) (child root 3 ∷ due) (preorder d ++ nodes) box node s in
@@ -200,9 +207,8 @@ in_list (split a b c d) root due nodes box node stands =
     ]
 
 in_tree : (t : Tree) (root : Square) (due : List Square) (nodes : List Node) (box : Square) (node : Node) → StandsIn (root ∷ due) (preorder t ++ nodes) box node → StandsAt root t box node ⊎ StandsIn due nodes box node
-in_tree (leaf outside) root due nodes box node stands = stands
-in_tree (leaf (shown i)) root due nodes box node stands = stands
-in_tree (leaf uncovered) root due nodes box node stands = stands
+in_tree (leaf n is) root due nodes box node stands =
+    subst (λ (boxes : List Square). ((box ≡ root) × (node ≡ n)) ⊎ StandsIn boxes nodes box node) (due_after-leaf root due n is) stands
 in_tree (split a b c d) root due nodes box node (inl here) = inl (inl here)
 in_tree (split a b c d) root due nodes box node (inr stands) =
     let flat = subst (λ (ns : List Node). StandsIn (children root ++ due) ns box node) (regroup (preorder a) (preorder b) (preorder c) (preorder d) nodes) stands in

@@ -1,9 +1,11 @@
 -- Which boxes are due after some nodes.
-use Rattle.std.specs.Prelude.{◌≡◌, ◌≢◌, ℕ, ◌<◌, ◌⊎◌, List, [], ◌∷◌, ◌++◌, fold, take, length}
+use Rattle.std.specs.Prelude.{◌≡◌, ◌≢◌, ℕ, ◌<◌, ◌⊎◌, List, [], ◌∷◌, ◌++◌, fold, take, length, Some, None}
+use Rattle.std.specs.declared.option.Option.{Option}
 use Rattle.rational_polygon.specs.Square.{Square, unit_square, child}
 use Rattle.covering_file.specs.declared.node.Node.{Node}
-use Rattle.covering_file.specs.declared.node.Node.TheVariants.{Split, Outside, Shown, Uncovered}
+use Rattle.covering_file.specs.declared.node.Node.TheVariants.{Split}
 
+-- the four children of a box, in the order in which their trees stand
 abbrev pub children : Square → List Square
 children box = child box 0 ∷ child box 1 ∷ child box 2 ∷ child box 3 ∷ []
 
@@ -11,13 +13,16 @@ children box = child box 0 ∷ child box 1 ∷ child box 2 ∷ child box 3 ∷ [
 abbrev pub due_after : List Square → Node → List Square
 due_after [] node = []
 due_after (box ∷ due) Split = children box ++ due
-due_after (box ∷ due) Outside = due
-due_after (box ∷ due) (Shown i) = due
-due_after (box ∷ due) Uncovered = due
+due_after (box ∷ due) leaf = due
 
 -- before the first node the unit square is due
 abbrev pub due_boxes : List Node → List Square
 due_boxes nodes = fold due_after (unit_square ∷ []) nodes
+
+-- the first of them
+abbrev pub first_of : List Square → Option Square
+first_of [] = None
+first_of (box ∷ others) = Some box
 
 -- a box is due before each node
 abbrev pub AreDue : List Node → Type 0

@@ -1,18 +1,18 @@
 -- Why a header could not be made, and why a file could not be read.
-use Rattle.std.specs.Prelude.{◌≡◌, ℕ, ◌-◌, ◌<◌, ◌≤◌, List, [], length, slice_index_or, ⊤, Ok, Err}
+use Rattle.std.specs.Prelude.{ℕ, ◌-◌, ◌<◌, ◌≤◌, Bool, true, false, List, [], length, slice_index_or, ⊤, Some, None}
 use Rattle.std.specs.declared.option.Option.{Option}
-use Rattle.std.specs.declared.result.Result.{Result}
 use Rattle.edge_words.specs.Stable.{IsStable}
-use Rattle.mcb_ends.specs.Causes.{Rose}
 use Rattle.covering_file.specs.declared.fault.HeaderFault.{HeaderFault}
 use Rattle.covering_file.specs.declared.fault.HeaderFault.TheVariants.{Words, Unstable, Depth}
 use Rattle.covering_file.specs.declared.fault.HeadFault.{HeadFault}
 use Rattle.covering_file.specs.declared.fault.HeadFault.TheVariants.{Line, Read, Memory}
 use Rattle.covering_file.specs.declared.file_kind.FileKind.{FileKind}
 use Rattle.covering_file.specs.Header.{IsWordCount, IsDepth, first_line}
-use Rattle.covering_file.specs.Input.{MayBe, StopsAtLine}
-use Rattle.covering_file.specs.Offence.{Grammar, IsFirstOffence}
-use Rattle.covering_file.specs.Text.{BeginsWith}
+use Rattle.line_grammar.specs.declared.fault.LineFault.{LineFault}
+use Rattle.line_grammar.specs.declared.fault.LineFault.TheVariants as line
+use Rattle.line_grammar.specs.Faults.{Refusal}
+use Rattle.line_grammar.specs.Input.{MayBe}
+use Rattle.line_grammar.specs.Text.{BeginsWith}
 
 -- the listed word of number i, counted from 1
 abbrev pub word_at : List (List ℕ) → ℕ → List ℕ
@@ -36,24 +36,22 @@ IsFaultOf words depth Words = ¬ (IsWordCount (length words))
 IsFaultOf words depth (Unstable i) = IsWordCount (length words) × IsFirstUnstable words i
 IsFaultOf words depth Depth = IsWordCount (length words) × AreStable words × ¬ (IsDepth depth)
 
--- A refused line is the first that offends in the input, with its least reason.
-abbrev pub IsRightFault : Grammar → Option (List ℕ) → HeadFault → Type 0
-IsRightFault g input (Line line reason) = (bytes : List ℕ) × MayBe input bytes × IsFirstOffence g bytes line reason
-IsRightFault g input Read = ⊤
-IsRightFault g input Memory = ⊤
+-- the fault of a line, as that of a header
+abbrev pub head_of : LineFault → HeadFault
+head_of (line.Line number reason) = Line number reason
+head_of line.Read = Read
 
--- What was read ends at most one buffer behind the lines before a refused one.
-abbrev pub StopsThere : Option (List ℕ) → Option (List ℕ) → HeadFault → Type 0
-StopsThere left left' (Line line reason) = StopsAtLine line left left'
-StopsThere left left' Read = ⊤
-StopsThere left left' Memory = ⊤
+-- the refusal that a fault is, if it is one
+abbrev pub head_refusal : HeadFault → Option Refusal
+head_refusal (Line line reason) = Some (record { line = line; reason = reason })
+head_refusal Read = None
+head_refusal Memory = None
 
--- A read fails only where the count of faults rose; the count stands with every other answer.
-abbrev pub HasHeadCause : {T : Type 0} → ℕ → ℕ → Result T HeadFault → Type 0
-HasHeadCause before now (Ok value) = now ≡ before
-HasHeadCause before now (Err (Line line reason)) = now ≡ before
-HasHeadCause before now (Err Read) = Rose before now
-HasHeadCause before now (Err Memory) = now ≡ before
+-- the fault that comes from outside
+abbrev pub is_head_read : HeadFault → Bool
+is_head_read (Line line reason) = false
+is_head_read Read = true
+is_head_read Memory = false
 
 -- The input begins with the first line of a header. Nothing before it takes memory.
 abbrev pub BeginsHeader : FileKind → Option (List ℕ) → Type 0

@@ -7,7 +7,7 @@ use Rattle.edge_words.specs.Reading.{digits_of}
 use Rattle.rational_polygon.specs.Outline.{Outline, IsPolygon}
 use Rattle.covering_file.specs.declared.file_kind.FileKind.{FileKind}
 use Rattle.covering_file.specs.declared.file_kind.FileKind.TheVariants.{Cover, Job}
-use Rattle.covering_file.specs.Text.{two_fields, text_of}
+use Rattle.line_grammar.specs.Text.{two_fields, named_line, text_of}
 
 pub record Heading : Type 0 where
   pub outline : Outline
@@ -35,10 +35,6 @@ pub record IsHeading (h : Heading) : Type 0 where
 abbrev pub first_line : FileKind → List ℕ
 first_line Cover = codes "mcbcover 1"
 first_line Job = codes "mcbjob 1"
-
--- a name and a number
-abbrev pub named_line : List ℕ → ℕ → List ℕ
-named_line name n = two_fields name (decimal n)
 
 -- the two numbers of a corner, in grid steps
 abbrev pub corner_line : ℕ × ℕ → List ℕ

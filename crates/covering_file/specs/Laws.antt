@@ -8,40 +8,39 @@ use Rattle.gradient_bounds.specs.Corridor.{HasCorridor}
 use Rattle.covering_file.specs.declared.file_kind.FileKind.{FileKind}
 use Rattle.covering_file.specs.declared.node.Node.{Node}
 use Rattle.covering_file.specs.declared.node.Node.TheVariants.{Shown}
-use Rattle.covering_file.specs.declared.reason.Reason.{Reason}
-use Rattle.covering_file.specs.Text.{text_of}
+use Rattle.line_grammar.specs.declared.reason.Reason.{Reason}
+use Rattle.line_grammar.specs.Offence.{IsFirstOffence}
+use Rattle.line_grammar.specs.Text.{text_of}
 use Rattle.covering_file.specs.Header.{Heading, IsHeading, header_text, job_text}
 use Rattle.covering_file.specs.Faults.{word_at, IsListed}
 use Rattle.covering_file.specs.Node.{IsNode}
-use Rattle.covering_file.specs.HeaderOffence.{header_grammar}
-use Rattle.covering_file.specs.JobOffence.{job_grammar}
-use Rattle.covering_file.specs.Offence.{Grammar, IsFirstOffence}
+use Rattle.covering_file.specs.HeaderPart.{header_part, job_part}
 use Rattle.covering_file.specs.Tree.{Tree, preorder, StandsAt, file_text}
-use Rattle.covering_file.specs.DueBoxes.{due_boxes, AreWhole, StandsIn}
+use Rattle.covering_file.specs.DueBoxes.{AreWhole, StandsIn}
 use Rattle.covering_file.specs.Sound.{IsSound, IsSure}
 use Rattle.covering_file.specs.Covering.{IsCovered, IsCovering}
-use Rattle.covering_file.specs.FileOffence.{MayPass, AfterEnd, lines_before}
+use Rattle.covering_file.specs.CheckClaims.{check_claims}
+use Rattle.covering_file.specs.FilePart.{nodes_part, file_lines}
 use Rattle.covering_file.specs.Verdicts.{IsFileWith, IsAccepted, IsRefused, IsSureFile}
 
 -- bytes that begin with the texts of two headers begin with one
 abbrev pub HeaderIsOne : Type 0
-HeaderIsOne = (kind other : FileKind) (g h : Heading) (x y : List ℕ) → IsHeading g → IsHeading h → header_text kind g ++ x ≡ header_text other h ++ y → (kind ≡ other) × (g ≡ h) × (x ≡ y)
+HeaderIsOne = (kind other : FileKind) (g h : Heading) (x y : List ℕ) → IsHeading g → IsHeading h → header_text kind g ++ x ≡ header_text other h ++ y
+    → (kind ≡ other) × (g ≡ h) × (x ≡ y)
 
 -- no text of a header is a prefix of the text of another header
 abbrev pub NoHeaderPrefix : Type 0
-NoHeaderPrefix = (kind other : FileKind) (g h : Heading) (rest : List ℕ) → IsHeading g → IsHeading h → header_text kind g ++ rest ≡ header_text other h → (kind ≡ other) × (g ≡ h)
+NoHeaderPrefix = (kind other : FileKind) (g h : Heading) (rest : List ℕ) → IsHeading g → IsHeading h
+    → header_text kind g ++ rest ≡ header_text other h → (kind ≡ other) × (g ≡ h)
 
 -- no line of a header offends, whatever follows it
 abbrev pub HeaderNeverOffends : Type 0
-HeaderNeverOffends = (kind : FileKind) (h : Heading) (rest : List ℕ) (line : ℕ) (reason : Reason) → IsHeading h → ¬ (IsFirstOffence (header_grammar kind) (header_text kind h ++ rest) line reason)
+HeaderNeverOffends = (kind : FileKind) (h : Heading) (rest : List ℕ) (line : ℕ) (reason : Reason) → IsHeading h
+    → ¬ (IsFirstOffence (header_part kind).grammar (header_text kind h ++ rest) line reason)
 
 -- no line of a job offends
 abbrev pub JobNeverOffends : Type 0
-JobNeverOffends = (h : Heading) (line : ℕ) (reason : Reason) → IsHeading h → ¬ (IsFirstOffence job_grammar (job_text h) line reason)
-
--- bytes offend first at one line, and there by one least reason
-abbrev pub OffenceIsOne : Grammar → Type 0
-OffenceIsOne g = (bytes : List ℕ) (line other : ℕ) (reason reason' : Reason) → IsFirstOffence g bytes line reason → IsFirstOffence g bytes other reason' → (line ≡ other) × (reason ≡ reason')
+JobNeverOffends = (h : Heading) (line : ℕ) (reason : Reason) → IsHeading h → ¬ (IsFirstOffence job_part.grammar (job_text h) line reason)
 
 -- ---- trees
 
@@ -59,7 +58,8 @@ StandingIsDue = (t : Tree) (box : Square) (node : Node) → StandsAt unit_square
 
 -- where the tree of a file is sound, each point of the polygon lies in a box of a leaf that is shown
 abbrev pub SoundCovers : Type 0
-SoundCovers = (h : Heading) (t : Tree) → IsHeading h → IsSound h t → (p : Point) → IsInPolygon h.outline p → (box : Square) × (i : ℕ) × StandsAt unit_square t box (Shown i) × IsInBox box p
+SoundCovers = (h : Heading) (t : Tree) → IsHeading h → IsSound h t → (p : Point) → IsInPolygon h.outline p
+    → (box : Square) × (i : ℕ) × StandsAt unit_square t box (Shown i) × IsInBox box p
 
 -- and has a corridor of the listed word for which it is shown
 abbrev pub SoundIsCovered : Type 0
@@ -67,18 +67,20 @@ SoundIsCovered = (h : Heading) (t : Tree) → IsHeading h → IsSound h t → Is
 
 -- where a polygon is covered, every point of it has a listed word with a corridor there
 abbrev pub CoveredEverywhere : Type 0
-CoveredEverywhere = (h : Heading) → IsHeading h → IsCovered h → (p : Point) → IsInPolygon h.outline p → (i : ℕ) × IsListed h.words i × HasCorridor (word_at h.words i) p.x p.y
+CoveredEverywhere = (h : Heading) → IsHeading h → IsCovered h → (p : Point) → IsInPolygon h.outline p
+    → (i : ℕ) × IsListed h.words i × HasCorridor (word_at h.words i) p.x p.y
 
 abbrev pub SureIsSound : Type 0
 SureIsSound = (h : Heading) (t : Tree) → IsSure h t → IsSound h t
 
 -- the text of a file is that of its lines
 abbrev pub FileTextIsLines : Type 0
-FileTextIsLines = (h : Heading) (t : Tree) → file_text h t ≡ text_of (lines_before (AfterEnd h (preorder t)))
+FileTextIsLines = (h : Heading) (t : Tree) → file_text h t ≡ text_of (file_lines h (preorder t))
 
 -- bytes that begin with the texts of two files begin with one, where the word numbers of one of the trees are listed
 abbrev pub FileIsOne : Type 0
-FileIsOne = (g h : Heading) (s t : Tree) (x y : List ℕ) → IsHeading g → IsHeading h → All (IsNode (length g.words)) (preorder s) → file_text g s ++ x ≡ file_text h t ++ y → (g ≡ h) × (s ≡ t) × (x ≡ y)
+FileIsOne = (g h : Heading) (s t : Tree) (x y : List ℕ) → IsHeading g → IsHeading h → All (IsNode (length g.words)) (preorder s)
+    → file_text g s ++ x ≡ file_text h t ++ y → (g ≡ h) × (s ≡ t) × (x ≡ y)
 
 -- ---- verdicts
 
@@ -88,11 +90,13 @@ AcceptedIsCovering = (limit nodes words : ℕ) (bytes : List ℕ) → IsAccepted
 
 -- and its bytes are the text of no other file
 abbrev pub AcceptedIsOne : Type 0
-AcceptedIsOne = (e : ℚ) (nodes words : ℕ) (bytes : List ℕ) (file : IsFileWith e nodes words bytes) (h : Heading) (t : Tree) → IsHeading h → bytes ≡ file_text h t → (h ≡ file.heading) × (t ≡ file.tree)
+AcceptedIsOne = (e : ℚ) (nodes words : ℕ) (bytes : List ℕ) (file : IsFileWith e nodes words bytes) (h : Heading) (t : Tree) → IsHeading h
+    → bytes ≡ file_text h t → (h ≡ file.heading) × (t ≡ file.tree)
 
 -- a file whose lines can all pass is accepted
 abbrev pub PassedIsAccepted : Type 0
-PassedIsAccepted = (limit : ℕ) (h : Heading) (nodes : List Node) → MayPass limit h nodes → due_boxes nodes ≡ [] → IsAccepted limit (length nodes) (length h.words) (text_of (lines_before (AfterEnd h nodes)))
+PassedIsAccepted = (limit : ℕ) (h : Heading) (nodes : List Node) → IsHeading h → (nodes_part check_claims limit h).Says nodes
+    → IsAccepted limit (length nodes) (length h.words) (text_of (file_lines h nodes))
 
 -- no line of a file with a sure tree within the limit is refused
 abbrev pub SureIsNotRefused : Type 0

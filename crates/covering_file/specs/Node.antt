@@ -1,13 +1,18 @@
--- The lines of the tree's nodes, and the end line.
-use Rattle.std.specs.Prelude.{◌≡◌, ℕ, zero, suc, ◌≤◌, ◌⊎◌, List, decimal, codes, ⊤}
-use Rattle.std.specs.declared.result.Result.{Result}
-use Rattle.std.specs.Prelude.{Ok, Err}
+-- The nodes of a tree, their lines, and the end line.
+use Rattle.std.specs.Prelude.{◌≡◌, ℕ, zero, suc, ◌≤◌, ◌⊎◌, List, decimal, codes, Bool, true, false, ⊤}
 use Rattle.covering_file.specs.declared.node.Node.{Node}
 use Rattle.covering_file.specs.declared.node.Node.TheVariants.{Split, Outside, Shown, Uncovered}
-use Rattle.covering_file.specs.declared.reason.Reason.{Reason}
-use Rattle.covering_file.specs.declared.reason.Reason.TheVariants.{OtherLine, Number}
-use Rattle.covering_file.specs.Text.{two_fields}
-use Rattle.covering_file.specs.HeaderOffence.{IsNamed}
+use Rattle.line_grammar.specs.Text.{two_fields}
+use Rattle.line_grammar.specs.Form.{IsNamed}
+
+-- a node is a split, or else a leaf
+abbrev pub IsLeaf : Node → Type 0
+IsLeaf Split = ⊥
+IsLeaf leaf = ⊤
+
+abbrev pub is_uncovered : Node → Bool
+is_uncovered Uncovered = true
+is_uncovered node = false
 
 abbrev pub node_line : Node → List ℕ
 node_line Split = codes "s"
@@ -17,10 +22,8 @@ node_line Uncovered = codes "u"
 
 -- a node of a file with so many words: the number of a word counts from 1
 abbrev pub IsNode : ℕ → Node → Type 0
-IsNode words Split = ⊤
-IsNode words Outside = ⊤
 IsNode words (Shown i) = (1 ≤ i) × (i ≤ words)
-IsNode words Uncovered = ⊤
+IsNode words node = ⊤
 
 abbrev pub NodeHasForm : List ℕ → Type 0
 NodeHasForm line = (line ≡ codes "s") ⊎ (line ≡ codes "o") ⊎ (line ≡ codes "u") ⊎ IsNamed (codes "w") line
@@ -28,13 +31,6 @@ NodeHasForm line = (line ≡ codes "s") ⊎ (line ≡ codes "o") ⊎ (line ≡ c
 -- the line of a node of a file with so many words
 abbrev pub IsNodeLine : ℕ → List ℕ → Type 0
 IsNodeLine words line = (node : Node) × IsNode words node × (line ≡ node_line node)
-
--- what a line is read as, where a node of a file with so many words is due
-abbrev pub ReadsNode : ℕ → List ℕ → Result Node Reason → Type 0
-ReadsNode words line (Ok node) = IsNode words node × (line ≡ node_line node)
-ReadsNode words line (Err OtherLine) = ¬ (NodeHasForm line)
-ReadsNode words line (Err Number) = NodeHasForm line × ¬ (IsNodeLine words line)
-ReadsNode words line (Err reason) = ⊥
 
 -- the end line of a tree with so many uncovered leaves
 abbrev pub end_line : ℕ → List ℕ

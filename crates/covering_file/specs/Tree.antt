@@ -1,38 +1,27 @@
 -- The quadtree of a covering file, and the text of the file.
 -- Source: Raphael Finkel and Jon Bentley, Quad Trees: A Data Structure for Retrieval on Composite Keys, Acta Informatica 4 (1974). The leaves and the text are this program's own.
-use Rattle.std.specs.Prelude.{◌≡◌, ℕ, ◌+◌, ◌⊎◌, List, [], ◌∷◌, ◌++◌}
+use Rattle.std.specs.Prelude.{◌≡◌, ℕ, ◌⊎◌, List, [], ◌∷◌, ◌++◌, count_by}
 use Rattle.rational_polygon.specs.Square.{Square, child}
 use Rattle.covering_file.specs.declared.file_kind.FileKind.TheVariants.{Cover}
 use Rattle.covering_file.specs.declared.node.Node.{Node}
-use Rattle.covering_file.specs.declared.node.Node.TheVariants.{Split, Outside, Shown, Uncovered}
-use Rattle.covering_file.specs.Text.{with_newline}
+use Rattle.covering_file.specs.declared.node.Node.TheVariants.{Split}
+use Rattle.line_grammar.specs.Text.{with_newline}
 use Rattle.covering_file.specs.Header.{Heading, header_text}
-use Rattle.covering_file.specs.Node.{node_line, end_line}
-
--- a box that is apart from the polygon, one that is shown for the word of a number, and one that is left uncovered
-pub data Leaf : Type 0 where
-  outside : Leaf
-  shown : ℕ → Leaf
-  uncovered : Leaf
+use Rattle.covering_file.specs.Node.{IsLeaf, is_uncovered, node_line, end_line}
 
 -- a leaf, or a split into the trees of the four children, in their order
 pub data Tree : Type 0 where
-  leaf : Leaf → Tree
+  leaf : (node : Node) → IsLeaf node → Tree
   split : Tree → Tree → Tree → Tree → Tree
-
-abbrev pub leaf_node : Leaf → Node
-leaf_node outside = Outside
-leaf_node (shown i) = Shown i
-leaf_node uncovered = Uncovered
 
 -- a tree's own node, and then those of the trees below it
 abbrev pub preorder : Tree → List Node
-preorder (leaf l) = leaf_node l ∷ []
+preorder (leaf node is) = node ∷ []
 preorder (split a b c d) = Split ∷ preorder a ++ preorder b ++ preorder c ++ preorder d
 
 -- In the tree of `root` the node stands at this box.
 abbrev pub StandsAt : Square → Tree → Square → Node → Type 0
-StandsAt root (leaf l) box node = (box ≡ root) × (node ≡ leaf_node l)
+StandsAt root (leaf n is) box node = (box ≡ root) × (node ≡ n)
 StandsAt root (split a b c d) box node =
     ((box ≡ root) × (node ≡ Split))
     ⊎ StandsAt (child root 0) a box node
@@ -42,14 +31,12 @@ StandsAt root (split a b c d) box node =
 
 -- its own line, and then, for a split, the four texts
 abbrev pub tree_text : Tree → List ℕ
-tree_text (leaf l) = with_newline (node_line (leaf_node l))
+tree_text (leaf node is) = with_newline (node_line node)
 tree_text (split a b c d) = with_newline (node_line Split) ++ tree_text a ++ tree_text b ++ tree_text c ++ tree_text d
 
+-- how many of its leaves are uncovered
 abbrev pub uncovered_in : Tree → ℕ
-uncovered_in (leaf outside) = 0
-uncovered_in (leaf (shown i)) = 0
-uncovered_in (leaf uncovered) = 1
-uncovered_in (split a b c d) = uncovered_in a + uncovered_in b + uncovered_in c + uncovered_in d
+uncovered_in t = count_by is_uncovered (preorder t)
 
 abbrev pub file_text : Heading → Tree → List ℕ
 file_text h t = header_text Cover h ++ tree_text t ++ with_newline (end_line (uncovered_in t))

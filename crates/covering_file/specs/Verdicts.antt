@@ -2,12 +2,13 @@
 use Rattle.std.specs.Prelude.{◌≡◌, ℕ, ◌≤◌, List, length}
 use Rattle.rat_core.specs.Fraction.{ℚ}
 use Rattle.gradient_bounds.specs.Clear.{slack}
-use Rattle.covering_file.specs.declared.reason.Reason.{Reason}
+use Rattle.line_grammar.specs.declared.reason.Reason.{Reason}
 use Rattle.covering_file.specs.Header.{Heading, IsHeading}
 use Rattle.covering_file.specs.Tree.{Tree, preorder, file_text}
 use Rattle.covering_file.specs.Sound.{IsSoundWith}
-use Rattle.covering_file.specs.FileOffence.{file_grammar}
-use Rattle.covering_file.specs.Offence.{IsFirstOffence}
+use Rattle.line_grammar.specs.Offence.{IsFirstOffence}
+use Rattle.covering_file.specs.CheckClaims.{check_claims}
+use Rattle.covering_file.specs.FilePart.{file_grammar}
 
 -- the bytes are the text of one file, whose tree has so many nodes and is sound with the slack e, and which lists so many words
 pub record IsFileWith (e : ℚ) (nodes words : ℕ) (bytes : List ℕ) : Type 0 where
@@ -25,7 +26,7 @@ IsAccepted limit nodes words bytes = (nodes ≤ limit) × IsFileWith (slack 60) 
 
 -- refused: this line is the first that can have a reason, and this its least one
 abbrev pub IsRefused : ℕ → ℕ → Reason → List ℕ → Type 0
-IsRefused limit line reason bytes = IsFirstOffence (file_grammar limit) bytes line reason
+IsRefused limit line reason bytes = IsFirstOffence (file_grammar check_claims limit) bytes line reason
 
 -- the text of a file with a sure tree within the limit
 abbrev pub IsSureFile : ℕ → List ℕ → Type 0

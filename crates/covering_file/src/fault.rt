@@ -1,8 +1,8 @@
 ghost use Rattle.std.specs.Prelude.{◌≡◌};
-ghost use Rattle.covering_file.specs.declared.fault.HeadFault.TheVariants.{Read, Memory};
+ghost use Rattle.covering_file.specs.Faults.{head_of};
+ghost use Rattle.covering_file.specs.declared.fault.HeadFault.TheVariants.{Memory};
 
-use crate::Reason;
-use mcb_ends::Failed;
+use line_grammar::{LineFault, Reason};
 use std::alloc::AllocError as OutOfMemory;
 use thiserror::Error;
 
@@ -34,11 +34,14 @@ pub enum HeadFault {
     Memory,
 }
 
-impl From<Failed> for HeadFault {
-    ghost from_gives = { λ _ e. e ≡ Read };
+impl From<LineFault> for HeadFault {
+    ghost from_gives = { λ fault e. e ≡ head_of fault };
 
-    fn from(_e: Failed) -> HeadFault {
-        HeadFault::Read
+    fn from(fault: LineFault) -> HeadFault {
+        match fault {
+            LineFault::Line { line, reason } => HeadFault::Line { line, reason },
+            LineFault::Read => HeadFault::Read,
+        }
     }
 }
 

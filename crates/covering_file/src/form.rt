@@ -1,46 +1,17 @@
-//! What may stand in a due line.
-ghost use Rattle.std.specs.Prelude.{ℕ, ◌≤◌, ◌↔◌, List, Result, length, IsTrue};
+//! The lines of corners, of words and of nodes.
+ghost use Rattle.std.specs.Prelude.{◌≤◌, ◌↔◌, IsTrue};
 ghost use Rattle.rational_polygon.specs.Outline.{IsInside};
-ghost use Rattle.covering_file.specs.declared.reason.Reason.{Reason};
-ghost use Rattle.covering_file.specs.Forms.{ReadsWhole, ReadsNumber, ReadsCorner, ReadsWord};
+ghost use Rattle.covering_file.specs.CornerForms.{corner_form, word_form};
+ghost use Rattle.covering_file.specs.FilePart.{node_form};
 
-use crate::Reason;
-use crate::fields::two_fields;
+use crate::{Node, Reason, read_node};
 use edge_words::Word;
+use line_grammar::{Form, two_fields};
 use rat_core::read_decimal;
 use std::alloc::Global;
 
 // The greatest number in a corner.
 const GREATEST: u32 = 1_048_576;
-
-/// What a due line has to be.
-pub trait Form {
-    /// What it says.
-    type Value;
-
-    /// The answer that a line gets.
-    ghost reads: { Self → List ℕ → Result Self.Value Reason → Type 0 };
-
-    /// Reads the line, or answers its least reason.
-    fn read(&self, line: &[u8]) -> Result<Self::Value, Reason>
-        requires { length line.now ≤ 80 }
-        ensures { reads self.now line.now result };
-}
-
-/// This very line. Any other has the reason.
-#[derive(Clone, Copy, Debug)]
-pub struct Whole<'a> {
-    pub text: &'a [u8],
-    pub refusal: Reason,
-}
-
-/// A name, and a number from `low` to `high`.
-#[derive(Clone, Copy)]
-pub(crate) struct Numbered<'a> {
-    pub name: &'a [u8],
-    pub low: u32,
-    pub high: u32,
-}
 
 /// Two numbers, which are a corner inside the triangle of the grid.
 #[derive(Clone, Copy)]
@@ -54,43 +25,16 @@ pub(crate) struct StableWord {
     pub alloc: Global,
 }
 
-impl Form for Whole<'_> {
-    type Value = ();
-
-    ghost reads = { λ form. ReadsWhole form.text.now form.refusal };
-
-    fn read(&self, line: &[u8]) -> Result<(), Reason> {
-        if line == self.text {
-            Ok(())
-        } else {
-            Err(self.refusal)
-        }
-    }
-}
-
-impl Form for Numbered<'_> {
-    type Value = u32;
-
-    ghost reads = { λ form. ReadsNumber form.name.now form.low form.high };
-
-    fn read(&self, line: &[u8]) -> Result<u32, Reason> {
-        let Some((name, number)) = two_fields(line) else {
-            return Err(Reason::OtherLine);
-        };
-        if name != self.name {
-            return Err(Reason::OtherLine);
-        }
-        match read_decimal(number, self.high) {
-            Some(number) if number >= self.low => Ok(number),
-            _ => Err(Reason::Number),
-        }
-    }
+/// The line of a node, in a file with so many words.
+#[derive(Clone, Copy, Debug)]
+pub struct NodeLine {
+    pub words: u32,
 }
 
 impl Form for Corner {
     type Value = (u32, u32);
 
-    ghost reads = { λ form. ReadsCorner form.grid };
+    ghost form = { λ form. corner_form form.grid };
 
     fn read(&self, line: &[u8]) -> Result<(u32, u32), Reason> {
         let Some((x, y)) = two_fields(line) else {
@@ -119,7 +63,7 @@ fn is_inside(grid: u32, x: u32, y: u32) -> bool
 impl Form for StableWord {
     type Value = Word;
 
-    ghost reads = { λ _. ReadsWord };
+    ghost form = { λ _. word_form };
 
     fn read(&self, line: &[u8]) -> Result<Word, Reason> {
         match Word::read(self.alloc, line) {
@@ -127,5 +71,15 @@ impl Form for StableWord {
             Ok(_) => Err(Reason::UnstableWord),
             Err(_) => Err(Reason::NotAWord),
         }
+    }
+}
+
+impl Form for NodeLine {
+    type Value = Node;
+
+    ghost form = { λ form. node_form form.words };
+
+    fn read(&self, line: &[u8]) -> Result<Node, Reason> {
+        read_node(line, self.words)
     }
 }

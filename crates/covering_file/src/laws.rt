@@ -1,8 +1,8 @@
 //! What follows from the definitions alone: each function's contract is a law. The program calls none.
 ghost use Rattle.covering_file.specs.declared.file_kind.FileKind.{FileKind};
-ghost use Rattle.covering_file.specs.HeaderOffence.{header_grammar};
-ghost use Rattle.covering_file.specs.JobOffence.{job_grammar};
-ghost use Rattle.covering_file.specs.Laws.{HeaderIsOne, NoHeaderPrefix, HeaderNeverOffends, JobNeverOffends, OffenceIsOne, WholeIsTree, TreeIsOne, StandingIsDue, SoundCovers, SoundIsCovered, CoveredEverywhere, SureIsSound, FileTextIsLines, FileIsOne, PassedIsAccepted, AcceptedIsCovering, AcceptedIsOne, SureIsNotRefused};
+ghost use Rattle.line_grammar.specs.Laws.{OffenceIsOne};
+ghost use Rattle.covering_file.specs.HeaderPart.{header_part, job_part};
+ghost use Rattle.covering_file.specs.Laws.{HeaderIsOne, NoHeaderPrefix, HeaderNeverOffends, JobNeverOffends, WholeIsTree, TreeIsOne, StandingIsDue, SoundCovers, SoundIsCovered, CoveredEverywhere, SureIsSound, FileTextIsLines, FileIsOne, PassedIsAccepted, AcceptedIsCovering, AcceptedIsOne, SureIsNotRefused};
 
 /// Bytes that begin with the texts of two headers begin with one.
 pub fn header_is_one()
@@ -26,8 +26,8 @@ pub fn job_never_offends()
 
 /// Bytes of a header or a job offend first at one line, and there by one least reason.
 pub fn offence_is_one()
-    ensures header { (kind : FileKind) → OffenceIsOne (header_grammar kind) }
-    ensures job { OffenceIsOne job_grammar }
+    ensures header { (kind : FileKind) → OffenceIsOne (header_part kind).grammar }
+    ensures job { OffenceIsOne job_part.grammar }
 {}
 
 /// The nodes of a list are those of a whole tree exactly where a box is due before each and none after all.

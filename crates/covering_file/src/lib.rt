@@ -5,9 +5,7 @@
 //! file the first offending line is named, with its least reason. A sound tree covers its polygon.
 #![tactic(auto)]
 
-mod due_line;
 mod fault;
-mod fields;
 mod file_kind;
 mod form;
 mod header;
@@ -16,20 +14,26 @@ pub mod laws;
 mod node;
 mod outline;
 mod reading;
-mod reason;
+mod walk;
 mod words;
 mod writing;
 
-pub use due_line::{end_of_input, take};
 pub use fault::{HeadFault, HeaderFault};
 pub use file_kind::FileKind;
-pub use form::{Form, Whole};
+pub use form::NodeLine;
 pub use header::Header;
 pub use job::read_job;
+pub use line_grammar::Reason;
 pub use node::{Node, read_node};
 pub use reading::read_header;
-pub use reason::Reason;
+pub use walk::Walk;
 pub use writing::{write_end, write_header, write_node};
+
+/// How many words a file lists at most.
+pub const MAX_WORDS: u32 = 32;
+
+/// How many nodes a file has at most.
+pub const MAX_NODES: u32 = 2_000_000;
 
 #[cfg(test)]
 mod node_tests;

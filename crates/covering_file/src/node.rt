@@ -1,6 +1,7 @@
 ghost use Rattle.std.specs.Prelude.{codes};
-ghost use Rattle.covering_file.specs.Node.{ReadsNode};
-ghost use Rattle.covering_file.specs.Text.{two_fields};
+ghost use Rattle.line_grammar.specs.Form.{ReadsAs};
+ghost use Rattle.line_grammar.specs.Text.{two_fields};
+ghost use Rattle.covering_file.specs.FilePart.{node_form};
 
 use crate::Reason;
 use rat_core::read_decimal;
@@ -21,7 +22,7 @@ pub enum Node {
 /// The node whose line this is, in a file with so many words. Else `OtherLine` where the line has no node's form, and
 /// `Number` where its number is not canonical or not from 1 to `words`.
 pub fn read_node(line: &[u8], words: u32) -> Result<Node, Reason>
-    ensures { ReadsNode words line.now result }
+    ensures { ReadsAs (node_form words) line.now result }
 {
     match line {
         b"s" => Ok(Node::Split),
@@ -34,7 +35,7 @@ pub fn read_node(line: &[u8], words: u32) -> Result<Node, Reason>
 
 // The node of a line that goes on so behind `w` and a space.
 fn read_shown(number: &[u8], words: u32) -> Result<Node, Reason>
-    ensures { ReadsNode words (two_fields (codes "w") number.now) result }
+    ensures { ReadsAs (node_form words) (two_fields (codes "w") number.now) result }
 {
     if number.contains(&b' ') {
         return Err(Reason::OtherLine);

@@ -1,16 +1,16 @@
 //! The lines of a polygon.
-ghost use Rattle.std.specs.Prelude.{◌≡◌, ℕ, ◌+◌, ◌<◌, false, [], ◌∷◌, ◌++◌, All, map, length, IfOk, IfErr};
-ghost use Rattle.rational_polygon.specs.Outline.{IsGrid, IsCount, IsInside, IsPolygon};
-ghost use Rattle.covering_file.specs.declared.file_kind.FileKind.{FileKind};
-ghost use Rattle.covering_file.specs.Faults.{HasHeadCause};
-ghost use Rattle.covering_file.specs.Header.{corner_line, outline_lines};
-ghost use Rattle.covering_file.specs.HeaderDue.{DueGrid, DueCorner, lines_before};
-ghost use Rattle.covering_file.specs.HeaderOffence.{header_grammar};
-ghost use Rattle.covering_file.specs.Taking.{TakesLines, FailsBehind};
+ghost use Rattle.std.specs.Prelude.{◌≡◌, ℕ, ◌+◌, ◌^◌, ◌≤◌, false, [], ◌∷◌, ◌++◌, All, length, IfOk, IfErr};
+ghost use Rattle.mcb_ends.specs.Causes.{HasCauseWhere};
+ghost use Rattle.rational_polygon.specs.Outline.{IsGrid, IsCount, IsInside};
+ghost use Rattle.line_grammar.specs.Part.{line_part};
+ghost use Rattle.line_grammar.specs.Reading.{ReadsPart, TakesPart, FailsPart};
+ghost use Rattle.covering_file.specs.CornerForms.{next_corner_form};
+ghost use Rattle.covering_file.specs.Faults.{head_refusal, is_head_read};
+ghost use Rattle.covering_file.specs.HeaderPart.{polygon_part, corners_part, corners_so_far};
 
-use crate::due_line::take;
-use crate::form::{Corner, Numbered};
+use crate::form::Corner;
 use crate::{HeadFault, Reason};
+use line_grammar::{Numbered, take};
 use mcb_ends::{LineReader, OutOfMemory, Source};
 use rational_polygon::Polygon;
 use std::alloc::Global;
@@ -21,13 +21,10 @@ pub(crate) fn read_outline<S: Source>(
     lines: &mut LineReader,
     src: &mut S,
 ) -> Result<Polygon, HeadFault>
-    requires second { lines.old.number ≡ 1 }
+    requires few { lines.old.number ≤ 2 ^ 31 + 1 }
     requires reading { lines.old.is_done ≡ false }
-    ensures outline { IfOk result (λ outline. TakesLines (outline_lines outline) lines.old lines.new (S.left src.old) (S.left src.new)) }
-    ensures is_polygon { IfOk result IsPolygon }
-    ensures refused { (kind : FileKind) → IfErr result (FailsBehind (header_grammar kind) (lines_before kind DueGrid)
-        lines.old (S.left src.old) (S.left src.new)) }
-    ensures cause { HasHeadCause (S.faults src.old) (S.faults src.new) result }
+    ensures reads { ReadsPart polygon_part head_refusal lines.old lines.new (S.left src.old) (S.left src.new) result }
+    ensures cause { HasCauseWhere is_head_read (S.faults src.old) (S.faults src.new) result }
 {
     let grid = take(
         &Numbered {
@@ -61,14 +58,14 @@ fn read_corners<S: Source>(
 ) -> Result<Vec<(u32, u32)>, HeadFault>
     requires grid { IsGrid grid }
     requires count { IsCount count }
-    requires fourth { lines.old.number ≡ 3 }
+    requires few { lines.old.number ≤ 2 ^ 31 + 3 }
     requires reading { lines.old.is_done ≡ false }
-    ensures corners { IfOk result (λ corners. TakesLines (map corner_line corners.items) lines.old lines.new (S.left src.old) (S.left src.new)) }
+    ensures corners { IfOk result (λ corners. TakesPart (corners_so_far grid count) lines.old lines.new
+        (S.left src.old) (S.left src.new) corners.items) }
     ensures count { IfOk result (λ corners. length corners.items + 1 ≡ count) }
-    ensures inside { IfOk result (λ corners. All (IsInside grid) corners.items) }
-    ensures refused { (kind : FileKind) → IfErr result (FailsBehind (header_grammar kind) (lines_before kind (DueCorner grid count []))
-        lines.old (S.left src.old) (S.left src.new)) }
-    ensures cause { HasHeadCause (S.faults src.old) (S.faults src.new) result }
+    ensures fails { IfErr result (λ fault. FailsPart (corners_part grid count).grammar lines.old lines.new
+        (S.left src.old) (S.left src.new) (head_refusal fault)) }
+    ensures cause { HasCauseWhere is_head_read (S.faults src.old) (S.faults src.new) result }
 {
     let mut corners = Vec::new(alloc);
     'corners: for _ in 1..count {
@@ -88,14 +85,15 @@ fn last_corner<S: Source>(
     requires grid { IsGrid grid }
     requires count { IsCount (length corners.items + 1) }
     requires inside { All (IsInside grid) corners.items }
-    requires last { lines.old.number ≡ length corners.items + 3 }
+    requires few { lines.old.number ≤ 2 ^ 31 + 19 }
     requires reading { lines.old.is_done ≡ false }
     ensures corner { IfOk result (λ outline. (c : ℕ × ℕ) × (outline ≡ record { grid = grid; corners = corners.items ++ c ∷ [] })
-        × TakesLines (corner_line c ∷ []) lines.old lines.new (S.left src.old) (S.left src.new)) }
-    ensures is_polygon { IfOk result IsPolygon }
-    ensures refused { (kind : FileKind) → IfErr result (FailsBehind (header_grammar kind)
-        (lines_before kind (DueCorner grid (length corners.items + 1) corners.items)) lines.old (S.left src.old) (S.left src.new)) }
-    ensures cause { HasHeadCause (S.faults src.old) (S.faults src.new) result }
+        × TakesPart (line_part (next_corner_form grid (length corners.items + 1) corners.items)) lines.old lines.new
+            (S.left src.old) (S.left src.new) c) }
+    ensures fails { IfErr result (λ fault. FailsPart
+        (line_part (next_corner_form grid (length corners.items + 1) corners.items)).grammar lines.old lines.new
+        (S.left src.old) (S.left src.new) (head_refusal fault)) }
+    ensures cause { HasCauseWhere is_head_read (S.faults src.old) (S.faults src.new) result }
 {
     let corner = take(&Corner { grid }, lines, src)?;
     corners.push(corner).map_err(OutOfMemory::from)?;

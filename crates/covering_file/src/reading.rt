@@ -1,54 +1,34 @@
-ghost use Rattle.std.specs.Prelude.{◌≡◌, [], IfOk, IfErr};
+ghost use Rattle.std.specs.Prelude.{◌≡◌, ◌^◌, ◌≤◌, false, IfErr};
+ghost use Rattle.mcb_ends.specs.Causes.{HasCauseWhere};
 ghost use Rattle.mcb_ends.specs.Reader.{bytes_before};
-ghost use Rattle.covering_file.specs.Faults.{IsRightFault, StopsThere, HasHeadCause, WantsMemory};
-ghost use Rattle.covering_file.specs.Header.{IsHeading, header_lines};
+ghost use Rattle.line_grammar.specs.Reading.{ReadsPart};
+ghost use Rattle.covering_file.specs.Faults.{WantsMemory, head_refusal, is_head_read};
 ghost use Rattle.covering_file.specs.Header as header;
-ghost use Rattle.covering_file.specs.HeaderOffence.{header_grammar};
-ghost use Rattle.covering_file.specs.Input.{IsNew};
-ghost use Rattle.covering_file.specs.Taking.{TakesLines, FailsBehind};
+ghost use Rattle.covering_file.specs.HeaderPart.{header_part};
 
-use crate::due_line::take;
-use crate::form::{Numbered, Whole};
 use crate::outline::read_outline;
 use crate::words::read_words;
 use crate::{FileKind, HeadFault, Header, Reason};
+use line_grammar::{Numbered, Whole, take};
 use mcb_ends::{LineReader, Source};
 use std::alloc::Global;
 
-/// Reads a header, from the first line to the depth. What stands behind it is left to the reader.
+/// Reads a header, from the first line to the depth. What stands after it is left to the reader.
 ///
-/// `Line` names the first line that offends, with its least reason; at most 4,096 bytes behind the lines before it were then read.
-/// `Read` comes where the source failed, and `Memory` where there was no memory, behind the first line.
+/// `Line` names the first line that offends, by the number that the reader gives it, with its least reason. `Read` comes where
+/// the source failed, and `Memory` where there was no memory, after the first line. With each fault the reader stands after the
+/// lines before one that is due, and at most 4,096 bytes after them were read.
 pub fn read_header<S: Source>(
     alloc: Global,
     kind: FileKind,
     lines: &mut LineReader,
     src: &mut S,
 ) -> Result<Header, HeadFault>
-    requires { IsNew lines.old }
-    ensures header { IfOk result (λ h. TakesLines (header_lines kind h) lines.old lines.new (S.left src.old) (S.left src.new)) }
-    ensures is_heading { IfOk result IsHeading }
-    ensures refused { IfErr result (IsRightFault (header_grammar kind) (bytes_before lines.old (S.left src.old))) }
-    ensures stops { IfErr result (StopsThere (S.left src.old) (S.left src.new)) }
+    requires few { lines.old.number ≤ 2 ^ 31 }
+    requires reading { lines.old.is_done ≡ false }
+    ensures reads { ReadsPart (header_part kind) head_refusal lines.old lines.new (S.left src.old) (S.left src.new) result }
     ensures wanting { IfErr result (WantsMemory kind (bytes_before lines.old (S.left src.old))) }
-    ensures cause { HasHeadCause (S.faults src.old) (S.faults src.new) result }
-{
-    take_header(alloc, kind, lines, src)
-}
-
-/// Takes the lines of a header, from the first to the depth.
-pub(crate) fn take_header<S: Source>(
-    alloc: Global,
-    kind: FileKind,
-    lines: &mut LineReader,
-    src: &mut S,
-) -> Result<Header, HeadFault>
-    requires { IsNew lines.old }
-    ensures taken { IfOk result (λ h. TakesLines (header_lines kind h) lines.old lines.new (S.left src.old) (S.left src.new)) }
-    ensures is_heading { IfOk result IsHeading }
-    ensures refused { IfErr result (FailsBehind (header_grammar kind) [] lines.old (S.left src.old) (S.left src.new)) }
-    ensures wanting { IfErr result (WantsMemory kind (bytes_before lines.old (S.left src.old))) }
-    ensures cause { HasHeadCause (S.faults src.old) (S.faults src.new) result }
+    ensures cause { HasCauseWhere is_head_read (S.faults src.old) (S.faults src.new) result }
 {
     take(
         &Whole {

@@ -1,18 +1,14 @@
 //! The lines of the words.
-ghost use Rattle.std.specs.Prelude.{◌≡◌, ◌+◌, ◌<◌, ◌≤◌, false, [], All, map, length, IfOk, IfErr};
-ghost use Rattle.edge_words.specs.Reading.{digits_of};
-ghost use Rattle.rational_polygon.specs.Outline.{Outline, IsPolygon};
-ghost use Rattle.covering_file.specs.declared.file_kind.FileKind.{FileKind};
-ghost use Rattle.covering_file.specs.Faults.{HasHeadCause};
-ghost use Rattle.covering_file.specs.Header.{IsStableWord, IsWordCount, words_lines};
-ghost use Rattle.covering_file.specs.HeaderDue.{DueWords, DueWord, lines_before};
-ghost use Rattle.covering_file.specs.HeaderOffence.{header_grammar};
-ghost use Rattle.covering_file.specs.Taking.{TakesLines, FailsBehind};
+ghost use Rattle.std.specs.Prelude.{◌≡◌, ◌+◌, ◌^◌, ◌≤◌, false, IfOk, IfErr};
+ghost use Rattle.mcb_ends.specs.Causes.{HasCauseWhere};
+ghost use Rattle.line_grammar.specs.Reading.{TakesPart, FailsPart};
+ghost use Rattle.covering_file.specs.Faults.{head_refusal, is_head_read};
+ghost use Rattle.covering_file.specs.HeaderPart.{words_part, listed_part};
 
 use crate::HeadFault;
-use crate::due_line::take;
-use crate::form::{Numbered, StableWord};
+use crate::form::StableWord;
 use edge_words::Word;
+use line_grammar::{Numbered, take};
 use mcb_ends::{LineReader, OutOfMemory, Source};
 use std::alloc::Global;
 
@@ -22,14 +18,12 @@ pub(crate) fn read_words<S: Source>(
     lines: &mut LineReader,
     src: &mut S,
 ) -> Result<Vec<Word>, HeadFault>
-    requires few { lines.old.number ≤ 19 }
+    requires few { lines.old.number ≤ 2 ^ 31 + 19 }
     requires reading { lines.old.is_done ≡ false }
-    ensures words { IfOk result (λ words. TakesLines (words_lines words.items) lines.old lines.new (S.left src.old) (S.left src.new)) }
-    ensures count { IfOk result (λ words. IsWordCount (length words.items)) }
-    ensures stable { IfOk result (λ words. All IsStableWord words.items) }
-    ensures refused { (kind : FileKind) (outline : Outline) → IsPolygon outline → lines.old.number ≡ length (lines_before kind (DueWords outline))
-        → IfErr result (FailsBehind (header_grammar kind) (lines_before kind (DueWords outline)) lines.old (S.left src.old) (S.left src.new)) }
-    ensures cause { HasHeadCause (S.faults src.old) (S.faults src.new) result }
+    ensures words { IfOk result (λ words. TakesPart words_part lines.old lines.new (S.left src.old) (S.left src.new) words.items) }
+    ensures fails { IfErr result (λ fault. FailsPart words_part.grammar lines.old lines.new
+        (S.left src.old) (S.left src.new) (head_refusal fault)) }
+    ensures cause { HasCauseWhere is_head_read (S.faults src.old) (S.faults src.new) result }
 {
     let count = take(
         &Numbered {
@@ -50,15 +44,13 @@ fn read_listed<S: Source>(
     lines: &mut LineReader,
     src: &mut S,
 ) -> Result<Vec<Word>, HeadFault>
-    requires count { IsWordCount count }
-    requires few { lines.old.number ≤ 20 }
+    requires count { count ≤ 32 }
+    requires few { lines.old.number ≤ 2 ^ 31 + 20 }
     requires reading { lines.old.is_done ≡ false }
-    ensures words { IfOk result (λ words. TakesLines (map digits_of words.items) lines.old lines.new (S.left src.old) (S.left src.new)) }
-    ensures count { IfOk result (λ words. length words.items ≡ count) }
-    ensures stable { IfOk result (λ words. All IsStableWord words.items) }
-    ensures refused { (kind : FileKind) (outline : Outline) → IsPolygon outline → lines.old.number ≡ length (lines_before kind (DueWord outline count []))
-        → IfErr result (FailsBehind (header_grammar kind) (lines_before kind (DueWord outline count [])) lines.old (S.left src.old) (S.left src.new)) }
-    ensures cause { HasHeadCause (S.faults src.old) (S.faults src.new) result }
+    ensures words { IfOk result (λ words. TakesPart (listed_part count) lines.old lines.new (S.left src.old) (S.left src.new) words.items) }
+    ensures fails { IfErr result (λ fault. FailsPart (listed_part count).grammar lines.old lines.new
+        (S.left src.old) (S.left src.new) (head_refusal fault)) }
+    ensures cause { HasCauseWhere is_head_read (S.faults src.old) (S.faults src.new) result }
 {
     let mut words = Vec::new(alloc);
     'words: for _ in 0..count {

@@ -2,9 +2,9 @@ ghost use Rattle.std.specs.Prelude.{◌≡◌, ◌≤◌, length, map};
 ghost use Rattle.mcb_ends.specs.Bytes.{Writes};
 ghost use Rattle.mcb_ends.specs.Causes.{HasCause};
 ghost use Rattle.edge_words.specs.Reading.{digits_of};
-ghost use Rattle.covering_file.specs.Header.{named_line, corner_line, outline_lines, words_lines, first_line, header_text};
+ghost use Rattle.covering_file.specs.Header.{corner_line, outline_lines, words_lines, first_line, header_text};
 ghost use Rattle.covering_file.specs.Node.{node_line, end_line};
-ghost use Rattle.covering_file.specs.Text.{text_of, with_newline};
+ghost use Rattle.line_grammar.specs.Text.{named_line, text_of, with_newline};
 
 use crate::{FileKind, Header, Node};
 use edge_words::Word;

@@ -16,7 +16,8 @@ use Rattle.defining_functions.specs.declared.sizes.Sizes.{Sizes}
 use Rattle.defining_functions.proofs.Limits.{IsSmall-conj, shift_small, upper_small, lower_small, function_limits}
 
 -- a function, from what it is made of
-pub function_is : (w : List ℕ) (v t p q : FormalPoint) (k l : ℕ) → t ≡ conj v → p ≡ upper_corner w k → q ≡ lower_corner w l → sine_form (t *ₚ (p -ₚ q)) ≡ defining_function v w k l
+pub function_is : (w : List ℕ) (v t p q : FormalPoint) (k l : ℕ) → t ≡ conj v → p ≡ upper_corner w k → q ≡ lower_corner w l
+    → sine_form (t *ₚ (p -ₚ q)) ≡ defining_function v w k l
 unfolding defining_function
 function_is w v t p q k l is_t is_p is_q = λ i. sine_form (is_t i *ₚ (is_p i -ₚ is_q i))
 
@@ -37,10 +38,10 @@ place_of_index : (k : ℕ) → 1 ≤ k → k - 1 + 1 ≡ k
 place_of_index k h = omega (arith, h)
 
 module _ (w : List ℕ) (t : FormalPoint) (us ls : List FormalPoint) (rs : List (Vec Sizes)) (h : IsFunctions w t us ls rs) where
-  pub turned_small : IsSmall t
-  turned_small =
+  pub conjugate_small : IsSmall t
+  conjugate_small =
       let v = h.shift.0 in
-      subst IsSmall (sym (h.turned_shift v h.shift.1)) (IsSmall-conj v (shift_small w v h.word h.shift.1))
+      subst IsSmall (sym (h.conjugate_shift v h.shift.1)) (IsSmall-conj v (shift_small w v h.word h.shift.1))
 
   pub upper_is : (k : ℕ) (p : FormalPoint) → IsPlace w k → p ≡ slice_index_or us (k - 1) p → p ≡ upper_corner w k
   upper_is k p place here = here ∙ h.each_upper.each (k - 1) p (omega (arith, place)) ∙ ap (upper_corner w) (place_of_index k place.0)
@@ -55,17 +56,20 @@ module _ (w : List ℕ) (t : FormalPoint) (us ls : List FormalPoint) (rs : List 
   kept_lower_small l p place here = subst IsSmall (sym (lower_is l p place here)) (lower_small w l h.word place)
 
   -- the function of what is kept
-  pub kept_function : (v p q : FormalPoint) (k l : ℕ) → IsShift w v → IsPlace w k → IsPlace w l → p ≡ slice_index_or us (k - 1) p → q ≡ slice_index_or ls (l - 1) q → sine_form (t *ₚ (p -ₚ q)) ≡ defining_function v w k l
+  pub kept_function : (v p q : FormalPoint) (k l : ℕ) → IsShift w v → IsPlace w k → IsPlace w l → p ≡ slice_index_or us (k - 1) p
+      → q ≡ slice_index_or ls (l - 1) q → sine_form (t *ₚ (p -ₚ q)) ≡ defining_function v w k l
   kept_function v p q k l shift upper lower here there =
-      function_is w v t p q k l (h.turned_shift v shift) (upper_is k p upper here) (lower_is l q lower there)
+      function_is w v t p q k l (h.conjugate_shift v shift) (upper_is k p upper here) (lower_is l q lower there)
 
-  pub kept_limits : (p q : FormalPoint) (k l : ℕ) → IsPlace w k → IsPlace w l → p ≡ slice_index_or us (k - 1) p → q ≡ slice_index_or ls (l - 1) q → IsWithinFunctionLimits (sine_form (t *ₚ (p -ₚ q)))
+  pub kept_limits : (p q : FormalPoint) (k l : ℕ) → IsPlace w k → IsPlace w l → p ≡ slice_index_or us (k - 1) p → q ≡ slice_index_or ls (l - 1) q
+      → IsWithinFunctionLimits (sine_form (t *ₚ (p -ₚ q)))
   kept_limits p q k l upper lower here there =
       let v = h.shift.0 in
       subst IsWithinFunctionLimits (sym (kept_function v p q k l h.shift.1 upper lower here there)) (function_limits w v k l h.word h.shift.1 upper lower)
 
   -- the sizes that are kept
-  pub kept_sizes : (k l : ℕ) (row : Vec Sizes) (s : Sizes) → IsPlace w k → IsPlace w l → row ≡ slice_index_or rs (k - 1) row → s ≡ slice_index_or row.items (l - 1) s → (v : FormalPoint) → IsShift w v → s ≡ sizes_of (defining_function v w k l)
+  pub kept_sizes : (k l : ℕ) (row : Vec Sizes) (s : Sizes) → IsPlace w k → IsPlace w l → row ≡ slice_index_or rs (k - 1) row
+      → s ≡ slice_index_or row.items (l - 1) s → (v : FormalPoint) → IsShift w v → s ≡ sizes_of (defining_function v w k l)
   kept_sizes k l row s upper lower here there v shift =
       let row_at : IsRow w (k - 1 + 1) row.items = subst (λ r. IsRow w (k - 1 + 1) r.items) (sym here) (h.each_row.each (k - 1) row (omega (arith, upper))) in
       let row_is : IsRow w k row.items = subst (λ k. IsRow w k row.items) (place_of_index k upper.0) row_at in

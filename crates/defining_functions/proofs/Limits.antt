@@ -54,17 +54,19 @@ lower_small w k word place = corner_small w k _ word place
 pub light_product : (p q : FormalPoint) → weight p ≤ 128 → weight q ≤ 128 → weight p * weight q ≤ 16384
 light_product p q h k = omega (arith, mul-le-mul_left (weight p) k, mul-le-mul_right 128 h)
 
-pub function_limits : (w : List ℕ) (v : FormalPoint) (k l : ℕ) → IsWord w → IsShift w v → IsPlace w k → IsPlace w l → IsWithinFunctionLimits (defining_function v w k l)
+pub function_limits : (w : List ℕ) (v : FormalPoint) (k l : ℕ) → IsWord w → IsShift w v → IsPlace w k → IsPlace w l
+    → IsWithinFunctionLimits (defining_function v w k l)
 unfolding defining_function
 function_limits w v k l word shift upper lower =
     let way = upper_corner w k -ₚ lower_corner w l in
-    let turned = IsSmall-conj v (shift_small w v word shift) in
+    let conjugate = IsSmall-conj v (shift_small w v word shift) in
     let apart : weight way ≤ 128 = ends_apart w k l _ _ word upper lower in
     let way_within : IsWithin 65 way = IsWithin_difference 65 _ _ (upper_small w k word upper).within (lower_small w l word lower).within in
-    let within : IsWithin 130 (sine_form (conj v *ₚ way)) = IsWithin-sine_form 130 (conj v *ₚ way) (IsWithin-*ₚ 65 65 (conj v) way turned.within way_within) in
+    let within : IsWithin 130 (sine_form (conj v *ₚ way)) = IsWithin-sine_form 130 (conj v *ₚ way)
+    (IsWithin-*ₚ 65 65 (conj v) way conjugate.within way_within) in
     record {
       within = within;
-      light = omega (arith, weight-sine_form (conj v *ₚ way), weight-*ₚ (conj v) way, light_product (conj v) way turned.light apart);
+      light = omega (arith, weight-sine_form (conj v *ₚ way), weight-*ₚ (conj v) way, light_product (conj v) way conjugate.light apart);
       slow = omega (arith, reach_le 130 (sine_form (conj v *ₚ way)) within);
     }
 

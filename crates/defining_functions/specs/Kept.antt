@@ -26,10 +26,10 @@ abbrev pub IsRow : List ℕ → ℕ → List Sizes → Type 0
 IsRow w k row = IsTable (λ j sizes. (v : FormalPoint) → IsShift w v → sizes ≡ sizes_of (defining_function v w k (j + 1))) (length w) row
 
 -- what a `Functions` keeps of a word
-pub record IsFunctions (w : List ℕ) (turned : FormalPoint) (uppers lowers : List FormalPoint) (rows : List (Vec Sizes)) : Type 0 where
+pub record IsFunctions (w : List ℕ) (conjugate : FormalPoint) (uppers lowers : List FormalPoint) (rows : List (Vec Sizes)) : Type 0 where
   pub word : IsWord w
   pub shift : HasShift w
-  pub turned_shift : (v : FormalPoint) → IsShift w v → turned ≡ conj v
+  pub conjugate_shift : (v : FormalPoint) → IsShift w v → conjugate ≡ conj v
   pub each_upper : IsTable (λ i p. p ≡ upper_corner w (i + 1)) (length w) uppers
   pub each_lower : IsTable (λ i p. p ≡ lower_corner w (i + 1)) (length w) lowers
   pub each_row : IsTable (λ i row. IsRow w (i + 1) row.items) (length w) rows

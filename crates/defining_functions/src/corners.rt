@@ -3,7 +3,6 @@ ghost use Rattle.std.specs.Prelude.{◌≡◌, ◌+◌, length, IfOk};
 ghost use Rattle.unfolding.specs.Corners.{upper_corner, lower_corner};
 ghost use Rattle.defining_functions.specs.Tables.{IsTable};
 
-use crate::form::copied;
 use exp_sums::ExpSum;
 use std::alloc::{AllocError as OutOfMemory, Global};
 use unfolding::Unfolding;
@@ -14,7 +13,7 @@ pub fn upper_corners(alloc: Global, u: &Unfolding) -> Result<Vec<ExpSum>, OutOfM
 {
     let mut corners = Vec::new(alloc);
     for i in 0..u.letters() {
-        let corner = copied(alloc, u.upper(i + 1))?;
+        let corner = u.upper(i + 1).copied(alloc)?;
         corners.push(corner)?;
     }
     Ok(corners)
@@ -26,7 +25,7 @@ pub fn lower_corners(alloc: Global, u: &Unfolding) -> Result<Vec<ExpSum>, OutOfM
 {
     let mut corners = Vec::new(alloc);
     for i in 0..u.letters() {
-        let corner = copied(alloc, u.lower(i + 1))?;
+        let corner = u.lower(i + 1).copied(alloc)?;
         corners.push(corner)?;
     }
     Ok(corners)

@@ -13,6 +13,7 @@ use crate::corners::{lower_corners, upper_corners};
 use crate::fault::FunctionsFault;
 use crate::form::form;
 use crate::sizes::{Sizes, rows};
+use edge_words::Word;
 use exp_sums::ExpSum;
 use std::alloc::{AllocError as OutOfMemory, Global};
 use std::marker::Model;
@@ -23,9 +24,9 @@ use unfolding::Unfolding;
 /// Corners are counted from 1. Only `of` and `function` take memory.
 #[derive(Drop)]
 pub struct Functions {
-    letters: Vec<u8>,
+    word: Word,
     /// The conjugate of the shift.
-    turned: ExpSum,
+    conjugate: ExpSum,
     /// The upper corners, from the first edge to the last.
     uppers: Vec<ExpSum>,
     /// The lower corners.
@@ -41,9 +42,9 @@ impl Model for Functions {
 
     ghost use Rattle.defining_functions.specs.Kept.{IsFunctions};
 
-    ghost view = { λ f. f.letters.items };
+    ghost view = { λ f. f.word };
 
-    ghost invariant = { λ f. IsFunctions f.letters.items f.turned f.uppers.items f.lowers.items f.rows.items };
+    ghost invariant = { λ f. IsFunctions f.word f.conjugate f.uppers.items f.lowers.items f.rows.items };
 }
 
 impl Functions {
@@ -65,7 +66,7 @@ impl Functions {
         ensures word { IsWord self.now }
         ensures shift { HasShift self.now }
     {
-        self.letters.len() as u32
+        self.word.letters().len() as u32
     }
 
     /// The function of the k-th upper and the l-th lower corner.
@@ -80,7 +81,7 @@ impl Functions {
     {
         let upper = &self.uppers[k as usize - 1];
         let lower = &self.lowers[l as usize - 1];
-        form(alloc, &self.turned, upper, lower)
+        form(alloc, &self.conjugate, upper, lower)
     }
 
     /// The weight of that function, the sum of |c| over its terms.
@@ -111,14 +112,14 @@ impl Functions {
         requires { IsShift u.now shift.now }
         ensures { IfOk result (λ functions. functions ≡ u.now) }
     {
-        let turned = shift.conj(alloc)?;
-        let letters = Vec::from_slice(alloc, u.word())?;
+        let conjugate = shift.conj(alloc)?;
+        let word = u.word().copied();
         let uppers = upper_corners(alloc, u)?;
         let lowers = lower_corners(alloc, u)?;
-        let rows = rows(alloc, u, &turned)?;
+        let rows = rows(alloc, u, &conjugate)?;
         Ok(Functions {
-            letters,
-            turned,
+            word,
+            conjugate,
             uppers,
             lowers,
             rows,

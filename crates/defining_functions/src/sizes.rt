@@ -20,16 +20,16 @@ pub struct Sizes {
     pub reach: i64,
 }
 
-/// The sizes of the functions of the k-th upper corner, where `turned` is the conjugate of the shift.
-fn row(alloc: Global, u: &Unfolding, turned: &ExpSum, k: u32) -> Result<Vec<Sizes>, OutOfMemory>
+/// The sizes of the functions of the k-th upper corner, where `conjugate` is the conjugate of the shift.
+fn row(alloc: Global, u: &Unfolding, conjugate: &ExpSum, k: u32) -> Result<Vec<Sizes>, OutOfMemory>
     requires place { IsPlace u.now k }
-    requires small { IsSmall turned.now }
-    requires turned { (v : FormalPoint) → IsShift u.now v → turned.now ≡ conj v }
+    requires small { IsSmall conjugate.now }
+    requires conjugate { (v : FormalPoint) → IsShift u.now v → conjugate.now ≡ conj v }
     ensures { IfOk result (λ row. IsRow u.now k row.items) }
 {
     let mut row = Vec::new(alloc);
     for j in 0..u.letters() {
-        let function = form(alloc, turned, u.upper(k), u.lower(j + 1))?;
+        let function = form(alloc, conjugate, u.upper(k), u.lower(j + 1))?;
         row.push(Sizes {
             weight: function.weight(),
             reach: function.reach(),
@@ -38,15 +38,19 @@ fn row(alloc: Global, u: &Unfolding, turned: &ExpSum, k: u32) -> Result<Vec<Size
     Ok(row)
 }
 
-/// The sizes of all functions, where `turned` is the conjugate of the shift.
-pub fn rows(alloc: Global, u: &Unfolding, turned: &ExpSum) -> Result<Vec<Vec<Sizes>>, OutOfMemory>
-    requires small { IsSmall turned.now }
-    requires turned { (v : FormalPoint) → IsShift u.now v → turned.now ≡ conj v }
+/// The sizes of all functions, where `conjugate` is the conjugate of the shift.
+pub fn rows(
+    alloc: Global,
+    u: &Unfolding,
+    conjugate: &ExpSum,
+) -> Result<Vec<Vec<Sizes>>, OutOfMemory>
+    requires small { IsSmall conjugate.now }
+    requires conjugate { (v : FormalPoint) → IsShift u.now v → conjugate.now ≡ conj v }
     ensures { IfOk result (λ rows. IsTable (λ i row. IsRow u.now (i + 1) row.items) (length u.now) rows.items) }
 {
     let mut rows = Vec::new(alloc);
     for i in 0..u.letters() {
-        let next = row(alloc, u, turned, i + 1)?;
+        let next = row(alloc, u, conjugate, i + 1)?;
         rows.push(next)?;
     }
     Ok(rows)

@@ -2,6 +2,7 @@
 use Rattle.std.proofs.Common.{◌≡◌, ◌≢◌, ℕ, ◌+◌, ◌-◌, ◌%◌, ◌<◌, ◌≤◌, List, [], ◌∷◌, ◌++◌, length, get_or, take, refl, All, sym, ◌∙◌, ap, subst, arith}
 use Rattle.std.proofs.lemmas.List.{get_or-map, length-map, length-take-le, take_more, map_push, map_more, length_push}
 use Rattle.std.proofs.lemmas.List.Elements.{All-from_get_or, All-get_or}
+use Rattle.edge_words.specs.declared.TheConstants.{MAX_LETTERS}
 use Rattle.edge_words.specs.Letters.{IsLetter, IsPlace, letter_at, letter_after}
 use Rattle.edge_words.specs.Reading.{IsDigit, digits_of, Spells, IsFirstOther, IsFirstRepeat}
 use Rattle.edge_words.specs.Word.{IsWord, IsWordLength, NeighboursDiffer}
@@ -83,11 +84,11 @@ first_repeat_at bytes k h repeats before =
 pub differ_from_indices : (bytes : List ℕ) → ((i : ℕ) → i < length bytes → get_or bytes i 0 ≢ get_or bytes ((i + 1) % length bytes) 0) → NeighboursDiffer bytes
 differ_from_indices bytes each i place = let f : i - 1 + 1 ≡ i = omega arith in rw f at (each (i - 1) (omega arith))
 
--- the letters of the first i digits, in a vector with room for 64
+-- the letters of the first i digits, in a vector with room for a word
 pub record IsSpelledSoFar (digits : List ℕ) (i : ℕ) (letters : List ℕ) (capacity : ℕ) : Type 0 where
   pub spelled : take i digits ≡ digits_of letters
   pub count : length letters ≡ i
-  pub room : capacity ≡ 64
+  pub room : capacity ≡ MAX_LETTERS
 
 -- one more
 pub spelled_more : (digits : List ℕ) (i : ℕ) (letters : List ℕ) (capacity : ℕ) → i < length digits → 48 ≤ get_or digits i 0 → IsSpelledSoFar digits i letters capacity → IsSpelledSoFar digits (i + 1) (letters ++ (get_or digits i 0 - 48) ∷ []) capacity
@@ -99,10 +100,10 @@ spelled_more digits i letters capacity h digit is = record {
   room = is.room;
 }
 
--- the digits of the first i letters, in a vector with room for 64
+-- the digits of the first i letters, in a vector with room for a word
 pub record IsWrittenSoFar (letters : List ℕ) (i : ℕ) (digits : List ℕ) (capacity : ℕ) : Type 0 where
   pub written : digits ≡ digits_of (take i letters)
-  pub room : capacity ≡ 64
+  pub room : capacity ≡ MAX_LETTERS
 
 -- one more
 pub written_more : (letters : List ℕ) (i : ℕ) (digits : List ℕ) (capacity : ℕ) → i < length letters → IsWrittenSoFar letters i digits capacity → IsWrittenSoFar letters (i + 1) (digits ++ (get_or letters i 0 + 48) ∷ []) capacity

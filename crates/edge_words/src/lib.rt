@@ -16,3 +16,6 @@ mod word;
 
 pub use fault::WordFault;
 pub use word::Word;
+
+/// The most letters of a word.
+pub const MAX_LETTERS: usize = 64;

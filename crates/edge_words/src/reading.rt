@@ -3,6 +3,7 @@ ghost use Rattle.edge_words.specs.Letters.{IsLetter};
 ghost use Rattle.edge_words.specs.Reading.{IsDigit, digits_of, IsFirstOther, IsFirstRepeat};
 ghost use Rattle.edge_words.specs.Word.{NeighboursDiffer};
 
+use crate::MAX_LETTERS;
 use smallvec::SmallVec;
 use std::alloc::Global;
 
@@ -34,9 +35,9 @@ pub(crate) fn first_repeat(bytes: &[u8]) -> Option<u32>
 }
 
 /// The digits that spell letters, inline.
-pub(crate) fn to_digits(alloc: Global, letters: &[u8]) -> SmallVec<u8, 64>
+pub(crate) fn to_digits(alloc: Global, letters: &[u8]) -> SmallVec<u8, MAX_LETTERS>
     requires letters { All IsLetter letters.now }
-    requires fits { length letters.now ≤ 64 }
+    requires fits { length letters.now ≤ MAX_LETTERS }
     ensures { result.items ≡ digits_of letters.now }
 {
     let mut digits = SmallVec::new(alloc);
@@ -47,9 +48,9 @@ pub(crate) fn to_digits(alloc: Global, letters: &[u8]) -> SmallVec<u8, 64>
 }
 
 /// The letters that digits spell, inline.
-pub(crate) fn letters_of(alloc: Global, digits: &[u8]) -> SmallVec<u8, 64>
+pub(crate) fn letters_of(alloc: Global, digits: &[u8]) -> SmallVec<u8, MAX_LETTERS>
     requires digits { All IsDigit digits.now }
-    requires fits { length digits.now ≤ 64 }
+    requires fits { length digits.now ≤ MAX_LETTERS }
     ensures { digits.now ≡ digits_of result.items }
 {
     let mut letters = SmallVec::new(alloc);

@@ -6,6 +6,7 @@ ghost use Rattle.edge_words.specs.Word.{IsWord};
 ghost use Rattle.mcb_ends.specs.Bytes.{Writes};
 ghost use Rattle.mcb_ends.specs.Causes.{HasCause};
 
+use crate::MAX_LETTERS;
 use crate::fault::WordFault;
 use crate::order::{compare_rotated, is_at_most_rotations};
 use crate::reading::{first_other, first_repeat, letters_of, to_digits};
@@ -15,12 +16,12 @@ use smallvec::SmallVec;
 use std::alloc::Global;
 use std::marker::Model;
 
-/// From 6 to 64 letters 1, 2 and 3, in an even number, of which no two cyclic neighbours are equal.
+/// From 6 to `MAX_LETTERS` letters 1, 2 and 3, in an even number, of which no two cyclic neighbours are equal.
 ///
 /// The letters always fit inline, so no call takes memory.
 #[derive(Debug, Drop)]
 pub struct Word {
-    letters: SmallVec<u8, 64>,
+    letters: SmallVec<u8, MAX_LETTERS>,
 }
 
 impl Model for Word {
@@ -45,7 +46,7 @@ impl Word {
             return Err(WordFault::Letter { place });
         }
         let len = bytes.len();
-        if len % 2 != 0 || len < 6 || len > 64 {
+        if len % 2 != 0 || len < 6 || len > MAX_LETTERS {
             return Err(WordFault::Length { len: len as u64 });
         }
         if let Some(place) = first_repeat(bytes) {
@@ -72,12 +73,21 @@ impl Word {
         is_balanced(letters, 1) && is_balanced(letters, 2) && is_balanced(letters, 3)
     }
 
+    /// The same word once more.
+    pub fn copied(&self) -> Word
+        ensures { result ≡ self.now }
+    {
+        Word {
+            letters: self.own_letters(),
+        }
+    }
+
     /// The word from its letter `by + 1` on.
     pub fn rotate(&self, by: u32) -> Word
         requires { by < length self.now }
         ensures { result ≡ rotated by self.now }
     {
-        let mut letters = self.copied();
+        let mut letters = self.own_letters();
         letters.as_mut_slice().rotate_left(by as usize);
         Word { letters }
     }
@@ -86,7 +96,7 @@ impl Word {
     pub fn reverse(&self) -> Word
         ensures { result ≡ reverse self.now }
     {
-        let mut letters = self.copied();
+        let mut letters = self.own_letters();
         letters.as_mut_slice().reverse();
         Word { letters }
     }
@@ -128,7 +138,7 @@ impl Word {
         ensures least { (by : ℕ) → by < length self.now → IsAtMost result (rotated by self.now) }
     {
         let letters = self.letters();
-        let mut least = self.rotate(0);
+        let mut least = self.copied();
         for by in 1..letters.len() {
             if compare_rotated(letters, by, least.letters()).is_lt() {
                 least = self.rotate(by as u32);
@@ -137,7 +147,7 @@ impl Word {
         least
     }
 
-    fn copied(&self) -> SmallVec<u8, 64>
+    fn own_letters(&self) -> SmallVec<u8, MAX_LETTERS>
         ensures all { result.items ≡ self.now }
         ensures is_word { IsWord self.now }
     {

@@ -36,12 +36,12 @@ dir_neg-sum d e =
     let n : neg_ℤ (d.n +ℤ e.n) ≡ neg_ℤ d.n +ℤ neg_ℤ e.n = omega (arith, ints) in
     λ i. record { m = m i; n = n i }
 
--- one direction is turned round, or moved, in place of the other
-pub turned : (d e : Dir) → d ≡ dir_neg e → dir_neg d ≡ e
-turned d e h = ap dir_neg h ∙ dir_neg-neg e
+-- one direction is negated, or moved, in place of the other
+pub negated : (d e : Dir) → d ≡ dir_neg e → dir_neg d ≡ e
+negated d e h = ap dir_neg h ∙ dir_neg-neg e
 
-pub turned_back : (d e : Dir) → dir_neg d ≡ e → d ≡ dir_neg e
-turned_back d e h = sym (dir_neg-neg d) ∙ ap dir_neg h
+pub negated_back : (d e : Dir) → dir_neg d ≡ e → d ≡ dir_neg e
+negated_back d e h = sym (dir_neg-neg d) ∙ ap dir_neg h
 
 pub moved : (d e u : Dir) → d ≡ dir_sum e u → dir_sum d (dir_neg e) ≡ u
 moved d e u h =

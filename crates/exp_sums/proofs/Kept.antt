@@ -1,5 +1,6 @@
 -- What the terms that an `ExpSum` keeps stand for, and what one more term makes of them.
-use Rattle.std.proofs.Common.{◌≡◌, ◌+◌, ◌≤◌, List, [], ◌∷◌, map, length, ℤ, ◌+ℤ◌, ◌*ℤ◌, neg_ℤ, refl, sym, ap, ap₂, subst, ◌∙◌, T, arith, FitsSigned, pos, ◌-ℤ◌, to_z, of_z}
+use Rattle.std.proofs.Common.{◌≡◌, ◌+◌, ◌≤◌, List, [], ◌∷◌, map, length, ℤ, ◌+ℤ◌, ◌*ℤ◌, neg_ℤ, refl, sym, ap, ap₂, subst, ◌∙◌, T, arith, FitsSigned, pos}
+use Rattle.std.proofs.Common.{◌-ℤ◌, to_z, of_z}
 use Rattle.std.specs.Prelude.{unsigned_abs}
 use Rattle.std.specs.Int.{w64}
 use mir.Val.{SFits}
@@ -36,7 +37,8 @@ point_of-put t ts = same_by_weight _ _ (λ f.
     weigh-point_of ℤ_ring ℤ_image f (put_term t ts)
     ∙ weigh_terms-put ℤ_ring ℤ_image f t ts
     ∙ ring₂ ℤ_ring (λ x y. x ⊞ y) (λ x y. y ⊞ x) refl (t.c *ℤ f t.dir) (weigh_terms ℤ_ring ℤ_image f ts)
-    ∙ sym (weigh-+ₚ ℤ_ring ℤ_image f (point_of ts) (monomial t.c t.dir) ∙ ap₂ ◌+ℤ◌ (weigh-point_of ℤ_ring ℤ_image f ts) (weigh-monomial ℤ_ring ℤ_image f t.c t.dir)))
+    ∙ sym (weigh-+ₚ ℤ_ring ℤ_image f (point_of ts) (monomial t.c t.dir)
+    ∙ ap₂ ◌+ℤ◌ (weigh-point_of ℤ_ring ℤ_image f ts) (weigh-monomial ℤ_ring ℤ_image f t.c t.dir)))
 
 -- the new coefficient fits 64 bits where the sum keeps its limits
 pub put_fits : (c : ℤ) (d : Dir) (ts : List Term) → IsWithinLimits (point_of ts +ₚ monomial c d) → FitsSigned w64 (c +ℤ total_at d ts)
@@ -44,7 +46,8 @@ put_fits c d ts h =
     let p = point_of ts in
     let here = coefficient_of_monomial c d in
     let same = coefficient-+ₚ p (monomial c d) d in
-    fits_signed_from_abs w64 (c +ℤ total_at d ts) (omega (arith, ints, here, same, coefficient-point_of ts d, coefficient_le_weight (p +ₚ monomial c d) d, h.light))
+    fits_signed_from_abs w64 (c +ℤ total_at d ts)
+    (omega (arith, ints, here, same, coefficient-point_of ts d, coefficient_le_weight (p +ₚ monomial c d) d, h.light))
 
 -- ---- further terms
 pub is_canonical-put_terms : (more ts : List Term) → T (is_canonical ts) → T (is_canonical (put_terms more ts))
@@ -56,7 +59,8 @@ weight-put_terms [] ts = omega arith
 weight-put_terms (t ∷ more) ts = omega (arith, weight-put_terms more (put_term t ts), weight-put t ts, terms_weight-cons t more)
 
 -- the next coefficient fits 64 bits
-pub step_fits : (done ts : List Term) (u : Term) → unsigned_abs u.c + terms_weight done + terms_weight ts ≤ greatest_weight → FitsSigned w64 (u.c +ℤ total_at u.dir (put_terms done ts))
+pub step_fits : (done ts : List Term) (u : Term) → unsigned_abs u.c + terms_weight done + terms_weight ts ≤ greatest_weight →
+    FitsSigned w64 (u.c +ℤ total_at u.dir (put_terms done ts))
 step_fits done ts u light =
     let total = total_at u.dir (put_terms done ts) in
     let small : unsigned_abs (u.c +ℤ total) ≤ unsigned_abs u.c + unsigned_abs total = omega (arith, ints) in
@@ -72,9 +76,9 @@ weight_negated ts =
 pub negated_is : (a : ℤ) → unsigned_abs a ≤ greatest_weight → to_z w64 (of_z w64 (pos 0 -ℤ to_z w64 (of_z w64 a))) ≡ neg_ℤ a
 negated_is a small =
     let fits : SFits w64 a = fits_signed_from_abs w64 a (omega (arith, small)) in
-    let turned : pos 0 -ℤ a ≡ neg_ℤ a = omega (arith, ints) in
-    let turned_fits : SFits w64 (neg_ℤ a) = fits_signed_from_abs w64 (neg_ℤ a) (omega (arith, ints, small)) in
-    ap (λ z. to_z w64 (of_z w64 (pos 0 -ℤ z))) (to_z-of_z w64 a fits) ∙ ap (λ z. to_z w64 (of_z w64 z)) turned ∙ to_z-of_z w64 (neg_ℤ a) turned_fits
+    let negative_is : pos 0 -ℤ a ≡ neg_ℤ a = omega (arith, ints) in
+    let negative_fits : SFits w64 (neg_ℤ a) = fits_signed_from_abs w64 (neg_ℤ a) (omega (arith, ints, small)) in
+    ap (λ z. to_z w64 (of_z w64 (pos 0 -ℤ z))) (to_z-of_z w64 a fits) ∙ ap (λ z. to_z w64 (of_z w64 z)) negative_is ∙ to_z-of_z w64 (neg_ℤ a) negative_fits
 
 length_cons : (t : Term) (ts : List Term) → length (cons_term t ts) ≤ length ts + 1
 length_cons t ts = cons_has (λ us. length us ≤ length ts + 1) t ts (λ _. omega arith) (λ _. omega arith)
@@ -92,7 +96,8 @@ pub length-put_terms : (more ts : List Term) → length (put_terms more ts) ≤ 
 length-put_terms [] ts = omega arith
 length-put_terms (t ∷ more) ts = omega (arith, length-put_terms more (put_term t ts), length-put t ts)
 
-weigh-put_terms : (f : Dir → ℤ) (more ts : List Term) → weigh_terms ℤ_ring ℤ_image f (put_terms more ts) ≡ weigh_terms ℤ_ring ℤ_image f ts +ℤ weigh_terms ℤ_ring ℤ_image f more
+weigh-put_terms : (f : Dir → ℤ) (more ts : List Term) →
+    weigh_terms ℤ_ring ℤ_image f (put_terms more ts) ≡ weigh_terms ℤ_ring ℤ_image f ts +ℤ weigh_terms ℤ_ring ℤ_image f more
 weigh-put_terms f [] ts = sym (ℤ_ring.add-zero (weigh_terms ℤ_ring ℤ_image f ts))
 weigh-put_terms f (t ∷ more) ts =
     weigh-put_terms f more (put_term t ts)
@@ -122,4 +127,5 @@ pub kept-put : (t : Term) (ts : List Term) → T (is_canonical ts) → IsWithinL
 kept-put t ts h limits = record { canonical = is_canonical-put t ts h; limits = subst IsWithinLimits (sym (point_of-put t ts)) limits }
 
 pub kept-put_terms : (more ts : List Term) → T (is_canonical ts) → IsWithinLimits (point_of ts +ₚ point_of more) → IsKept (put_terms more ts)
-kept-put_terms more ts h limits = record { canonical = is_canonical-put_terms more ts h; limits = subst IsWithinLimits (sym (point_of-put_terms more ts)) limits }
+kept-put_terms more ts h limits =
+    record { canonical = is_canonical-put_terms more ts h; limits = subst IsWithinLimits (sym (point_of-put_terms more ts)) limits }

@@ -23,6 +23,7 @@ pub limits_difference : (p q : FormalPoint) → IsWithinLimits p → IsWithinLim
 limits_difference p q h k light = record { near = IsWithin_difference greatest_exponent p q h.near k.near; light = omega (arith, weight_difference p q, light) }
 
 -- the condition of `add_dir`
-pub limits_added : (p : FormalPoint) (c : ℤ) (d : Dir) → IsWithinLimits p → IsNear greatest_exponent d → weight p + unsigned_abs c ≤ greatest_weight → IsWithinLimits (p +ₚ monomial c d)
+pub limits_added : (p : FormalPoint) (c : ℤ) (d : Dir) → IsWithinLimits p → IsNear greatest_exponent d → weight p + unsigned_abs c ≤ greatest_weight →
+    IsWithinLimits (p +ₚ monomial c d)
 limits_added p c d h near light =
     limits-+ₚ p (monomial c d) h (limits-monomial c d near (omega (arith, light))) (omega (arith, weight-monomial c d, light))

@@ -20,9 +20,11 @@ light_kept ts h = omega (arith, weight-canonical ts h.canonical, h.limits.light)
 pub near_kept : (ts : List Term) → IsKept ts → All (λ (t : Term). IsNear greatest_exponent t.dir) ts
 near_kept ts h = subst (λ us. All (λ (t : Term). IsNear greatest_exponent t.dir) us) (terms-canonical ts h.canonical) h.limits.near
 
-pub light_product : (ts us : List Term) → IsKept ts → IsKept us → weight (point_of ts) * weight (point_of us) ≤ greatest_weight → terms_weight ts * terms_weight us ≤ greatest_weight
+pub light_product : (ts us : List Term) → IsKept ts → IsKept us → weight (point_of ts) * weight (point_of us) ≤ greatest_weight →
+    terms_weight ts * terms_weight us ≤ greatest_weight
 light_product ts us h k light =
-    subst (λ n. n * terms_weight us ≤ greatest_weight) (weight-canonical ts h.canonical) (subst (λ n. weight (point_of ts) * n ≤ greatest_weight) (weight-canonical us k.canonical) light)
+    subst (λ n. n * terms_weight us ≤ greatest_weight) (weight-canonical ts h.canonical)
+    (subst (λ n. weight (point_of ts) * n ≤ greatest_weight) (weight-canonical us k.canonical) light)
 
 pub near_product : (ts us : List Term) → IsKept ts → IsKept us → SumsAreNear (terms (point_of ts)) (terms (point_of us)) → SumsAreNear ts us
 near_product ts us h k near =
@@ -47,17 +49,22 @@ pub point_of-sine_terms : (ts : List Term) → T (is_canonical ts) → point_of 
 unfolding sine_form
 point_of-sine_terms ts h = ap (λ us. point_of (flat_map sine_terms us)) (sym (terms-canonical ts h))
 
-pub point_of-products : (ts us : List Term) → T (is_canonical ts) → T (is_canonical us) → point_of (flat_map (λ t. map (term_product t) us) ts) ≡ point_of ts *ₚ point_of us
+pub point_of-products : (ts us : List Term) → T (is_canonical ts) → T (is_canonical us) →
+    point_of (flat_map (λ t. map (term_product t) us) ts) ≡ point_of ts *ₚ point_of us
 unfolding ◌*ₚ◌
-point_of-products ts us h k = ap₂ (λ (vs ws : List Term). point_of (flat_map (λ t. map (term_product t) ws) vs)) (sym (terms-canonical ts h)) (sym (terms-canonical us k))
+point_of-products ts us h k = ap₂ (λ (vs ws : List Term). point_of (flat_map (λ t. map (term_product t) ws) vs)) (sym (terms-canonical ts h))
+    (sym (terms-canonical us k))
 
 -- ---- which are kept
 pub kept_conj : (ts : List Term) → IsKept ts → IsKept (put_terms (map term_conj ts) [])
 kept_conj ts h = kept_listed (map term_conj ts) (subst IsWithinLimits (sym (point_of-conj ts h.canonical)) (limits-conj (point_of ts) h.limits))
 
 pub kept_sines : (ts : List Term) → IsKept ts → IsKept (put_terms (flat_map sine_terms ts) [])
-kept_sines ts h = kept_listed (flat_map sine_terms ts) (subst IsWithinLimits (sym (point_of-sine_terms ts h.canonical)) (limits-sine_form (point_of ts) h.limits))
+kept_sines ts h = kept_listed (flat_map sine_terms ts)
+    (subst IsWithinLimits (sym (point_of-sine_terms ts h.canonical)) (limits-sine_form (point_of ts) h.limits))
 
-pub kept_products : (ts us : List Term) → IsKept ts → IsKept us → weight (point_of ts) * weight (point_of us) ≤ greatest_weight → SumsAreNear (terms (point_of ts)) (terms (point_of us)) → IsKept (put_terms (flat_map (λ t. map (term_product t) us) ts) [])
+pub kept_products : (ts us : List Term) → IsKept ts → IsKept us → weight (point_of ts) * weight (point_of us) ≤ greatest_weight →
+    SumsAreNear (terms (point_of ts)) (terms (point_of us)) → IsKept (put_terms (flat_map (λ t. map (term_product t) us) ts) [])
 kept_products ts us h k light near =
-    kept_listed (flat_map (λ t. map (term_product t) us) ts) (subst IsWithinLimits (sym (point_of-products ts us h.canonical k.canonical)) (limits_product (point_of ts) (point_of us) light near))
+    kept_listed (flat_map (λ t. map (term_product t) us) ts)
+    (subst IsWithinLimits (sym (point_of-products ts us h.canonical k.canonical)) (limits_product (point_of ts) (point_of us) light near))

@@ -1,5 +1,6 @@
 -- What a search finds among sorted terms, and what an edit at that place makes of them.
-use Rattle.std.proofs.Common.{◌≡◌, ◌≢◌, ℕ, zero, suc, ◌<◌, ◌≤◌, List, [], ◌∷◌, ◌++◌, length, take, drop, get_or, set, pos, ◌+ℤ◌, refl, sym, ap, subst, ◌∙◌, T, arith, Result, Ok, Err, IfOk, IfErr, ◌⊎◌, inl, inr}
+use Rattle.std.proofs.Common.{◌≡◌, ◌≢◌, ℕ, zero, suc, ◌<◌, ◌≤◌, List, [], ◌∷◌, ◌++◌, length, take, drop, get_or, set, pos, ◌+ℤ◌, refl, sym, ap, subst, ◌∙◌}
+use Rattle.std.proofs.Common.{T, arith, Result, Ok, Err, IfOk, IfErr, ◌⊎◌, inl, inr}
 use Rattle.std.specs.List.{insert, remove}
 use Rattle.std.specs.List.Sorted.{IsSearchInRange, IsBinarySearchResult, IsNonDecreasingBy}
 use Rattle.std.proofs.lemmas.Int.{ints}
@@ -56,7 +57,8 @@ comparisons_rise ts d h i j x le in_range = at_places (cases_lt i j)
         rw same (omega arith)
 
 -- a binary search by direction ends at the direction, or at the gap for it
-pub searched : (ts : List Term) (d : Dir) (r : Result ℕ ℕ) → T (is_canonical ts) → IsSearchInRange r (length ts) → IsBinarySearchResult (λ (t : Term). dir_cmp t.dir d) ts r → record { found : IfOk r (IsPlaceOf ts d); absent : IfErr r (IsGapFor ts d) }
+pub searched : (ts : List Term) (d : Dir) (r : Result ℕ ℕ) → T (is_canonical ts) → IsSearchInRange r (length ts) →
+    IsBinarySearchResult (λ (t : Term). dir_cmp t.dir d) ts r → record { found : IfOk r (IsPlaceOf ts d); absent : IfErr r (IsGapFor ts d) }
 searched ts d (Ok i) h in_range equal = record { found = record { in_range = in_range; is_there = λ x. dir_is (get_or ts i x).dir d (equal x) }; absent = tt }
 searched ts d (Err i) h in_range parted = record {
   found = tt;
@@ -81,7 +83,8 @@ gap_in_rest d t ts i h = record {
 -- the first term comes before a place further on
 place_is_later : (d : Dir) (t : Term) (ts : List Term) (i : ℕ) → T (is_canonical (t ∷ ts)) → IsPlaceOf (t ∷ ts) d (suc i) → dir_cmp d t.dir ≡ Greater
 place_is_later d t ts i h place =
-    dir_later t.dir d (subst (λ e. dir_cmp t.dir e ≡ Less) (place.is_there t) (before_at t.dir ts i t (canonical_parts t ts h).before (omega (arith, place.in_range))))
+    dir_later t.dir d
+    (subst (λ e. dir_cmp t.dir e ≡ Less) (place.is_there t) (before_at t.dir ts i t (canonical_parts t ts h).before (omega (arith, place.in_range))))
 
 gap_is_later : (d : Dir) (t : Term) (ts : List Term) (i : ℕ) → IsGapFor (t ∷ ts) d (suc i) → dir_cmp d t.dir ≡ Greater
 gap_is_later d t ts i gap = dir_later t.dir d (gap.earlier_before 0 t (omega arith))
@@ -90,10 +93,17 @@ gap_is_later d t ts i gap = dir_later t.dir d (gap.earlier_before 0 t (omega ari
 pub total_at_place : (ts : List Term) (d : Dir) (i : ℕ) (x : Term) → T (is_canonical ts) → IsPlaceOf ts d i → total_at d ts ≡ (get_or ts i x).c
 total_at_place [] d i x h place = absurd (omega (arith, place.in_range))
 total_at_place (t ∷ ts) d zero x h place = subst (λ e. total_at e (t ∷ ts) ≡ t.c) (place.is_there x) (total_first t ts (canonical_parts t ts h))
-total_at_place (t ∷ ts) d (suc i) x h place = rw (place_is_later d t ts i h place) (omega (arith, ints, total_at_place ts d i x (canonical_parts t ts h).rest (place_in_rest d t ts i place)))
+total_at_place (t ∷ ts) d (suc i) x h place = rw (place_is_later d t ts i h place)
+    (omega (arith, ints, total_at_place ts d i x (canonical_parts t ts h).rest (place_in_rest d t ts i place)))
 
 gap_of_rest : (d : Dir) (t : Term) (ts : List Term) → IsGapFor (t ∷ ts) d 0 → IsGapFor ts d 0
-gap_of_rest d t ts h = record { in_range = omega arith; earlier_before = λ j x lt. absurd (omega (arith, lt)); later_from = λ j x le lt. h.later_from (suc j) x (omega arith) (omega (arith, lt)) }
+gap_of_rest d t ts h =
+    record {
+      in_range = omega arith;
+      earlier_before = λ j x lt. absurd (omega (arith, lt));
+      later_from =
+          λ j x le lt. h.later_from (suc j) x (omega arith) (omega (arith, lt));
+    }
 
 gap_is_earlier : (d : Dir) (t : Term) (ts : List Term) → IsGapFor (t ∷ ts) d 0 → dir_cmp d t.dir ≡ Less
 gap_is_earlier d t ts gap = dir_after t.dir d (gap.later_from 0 t (omega arith) (omega arith))
@@ -108,12 +118,14 @@ total_in_gap (t ∷ ts) d (suc i) gap = rw (gap_is_later d t ts i gap) (omega (a
 abbrev pub sum_at : Term → List Term → ℕ → Term → Term
 sum_at t ts i x = let u = get_or ts i x in term_of (t.c +ℤ u.c) u.dir
 
-pub put_at_place : (t : Term) (ts : List Term) (i : ℕ) (x : Term) → T (is_canonical ts) → IsPlaceOf ts t.dir i → put_term t ts ≡ take i ts ++ cons_term (sum_at t ts i x) (drop (suc i) ts)
+pub put_at_place : (t : Term) (ts : List Term) (i : ℕ) (x : Term) → T (is_canonical ts) → IsPlaceOf ts t.dir i →
+    put_term t ts ≡ take i ts ++ cons_term (sum_at t ts i x) (drop (suc i) ts)
 put_at_place t [] i x h place = absurd (omega (arith, place.in_range))
 put_at_place t (u ∷ us) zero x h place =
     let equal : dir_cmp t.dir u.dir ≡ Equal = subst (λ d. dir_cmp d u.dir ≡ Equal) (place.is_there t) (same_dir u.dir) in
     rw equal refl
-put_at_place t (u ∷ us) (suc i) x h place = rw (place_is_later t.dir u us i h place) (ap (λ vs. u ∷ vs) (put_at_place t us i x (canonical_parts u us h).rest (place_in_rest t.dir u us i place)))
+put_at_place t (u ∷ us) (suc i) x h place = rw (place_is_later t.dir u us i h place)
+    (ap (λ vs. u ∷ vs) (put_at_place t us i x (canonical_parts u us h).rest (place_in_rest t.dir u us i place)))
 
 pub put_in_gap : (t : Term) (ts : List Term) (i : ℕ) → IsGapFor ts t.dir i → put_term t ts ≡ take i ts ++ cons_term t (drop i ts)
 put_in_gap t [] zero gap = refl
@@ -139,7 +151,8 @@ module _ (t : Term) (ts : List Term) (i : ℕ) (x : Term) (h : T (is_canonical t
 
   -- others are one term
   pub put_joins : (sum_at t ts i x).c ≢ pos 0 → put_term t ts ≡ set ts i (sum_at t ts i x)
-  put_joins other = put_at_place t ts i x h place ∙ ap (λ us. take i ts ++ us) (cons_other (sum_at t ts i x) (drop (suc i) ts) other) ∙ sym (set_parts ts i (sum_at t ts i x) place.in_range)
+  put_joins other = put_at_place t ts i x h place ∙ ap (λ us. take i ts ++ us) (cons_other (sum_at t ts i x) (drop (suc i) ts) other)
+      ∙ sym (set_parts ts i (sum_at t ts i x) place.in_range)
 
 module _ (t : Term) (ts : List Term) (i : ℕ) (gap : IsGapFor ts t.dir i) where
   pub put_adds : t.c ≢ pos 0 → put_term t ts ≡ insert ts i t

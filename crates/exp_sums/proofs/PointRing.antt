@@ -10,7 +10,8 @@ use Rattle.exp_sums.specs.declared.direction.Dir.{Dir}
 use Rattle.exp_sums.specs.FormalPoint.{FormalPoint, dir_sum, dir_neg, zero_dir, monomial, whole_point, zero_point, one_point, ◌+ₚ◌, negative, ◌*ₚ◌, conj}
 use Rattle.exp_sums.specs.Weigh.{weigh_ints}
 use Rattle.exp_sums.proofs.Directions.{dir_sum_comm, dir_sum_assoc, dir_sum-zero, dir_sum-neg, dir_neg-neg, dir_neg-sum}
-use Rattle.exp_sums.proofs.Weigh.{weigh-+ₚ, weigh-negative, weigh-*ₚ, weigh-conj, weigh-monomial, weigh-zero_point, weigh-one_point, weigh_exchanged, weigh_summed}
+use Rattle.exp_sums.proofs.Weigh.{weigh-+ₚ, weigh-negative, weigh-*ₚ, weigh-conj, weigh-monomial, weigh-zero_point, weigh-one_point, weigh_exchanged}
+use Rattle.exp_sums.proofs.Weigh.{weigh_summed}
 use Rattle.exp_sums.proofs.SamePoint.{same_by_weight}
 
 -- ---- sums in the whole numbers at each operation
@@ -40,7 +41,8 @@ pub +ₚ-zero_point : (p : FormalPoint) → p +ₚ zero_point ≡ p
 +ₚ-zero_point p = same_by_weight _ _ (λ f. at-+ₚ f p zero_point ∙ ap (λ z. weigh_ints f p +ℤ z) (weigh-zero_point ℤ_ring ℤ_image f) ∙ +ℤ_idr (weigh_ints f p))
 
 pub +ₚ-negative : (p : FormalPoint) → p +ₚ negative p ≡ zero_point
-+ₚ-negative p = same_by_weight _ _ (λ f. at-+ₚ f p (negative p) ∙ ap (λ z. weigh_ints f p +ℤ z) (at-negative f p) ∙ +ℤ_invr (weigh_ints f p) ∙ sym (weigh-zero_point ℤ_ring ℤ_image f))
++ₚ-negative p = same_by_weight _ _
+    (λ f. at-+ₚ f p (negative p) ∙ ap (λ z. weigh_ints f p +ℤ z) (at-negative f p) ∙ +ℤ_invr (weigh_ints f p) ∙ sym (weigh-zero_point ℤ_ring ℤ_image f))
 
 pub *ₚ_comm : (p q : FormalPoint) → p *ₚ q ≡ q *ₚ p
 *ₚ_comm p q = same_by_weight _ _ (λ f.
@@ -101,7 +103,8 @@ negative-negative p = ring₁ point_ring (λ x. opp (opp x)) (λ x. x) refl p
 -- ---- multiples of directions
 pub monomial-negative : (c : ℤ) (d : Dir) → negative (monomial c d) ≡ monomial (neg_ℤ c) d
 monomial-negative c d = same_by_weight _ _ (λ f.
-    at-negative f (monomial c d) ∙ ap neg_ℤ (at-monomial f c d) ∙ ring₂ ℤ_ring (λ c x. opp (c ⊠ x)) (λ c x. opp c ⊠ x) refl c (f d) ∙ sym (at-monomial f (neg_ℤ c) d))
+    at-negative f (monomial c d) ∙ ap neg_ℤ (at-monomial f c d) ∙ ring₂ ℤ_ring (λ c x. opp (c ⊠ x)) (λ c x. opp c ⊠ x) refl c (f d)
+    ∙ sym (at-monomial f (neg_ℤ c) d))
 
 pub monomial-*ₚ : (b c : ℤ) (d e : Dir) → monomial b d *ₚ monomial c e ≡ monomial (b *ℤ c) (dir_sum d e)
 monomial-*ₚ b c d e = same_by_weight _ _ (λ f.

@@ -14,12 +14,14 @@ products_near : (ts us : List Term) → SumsAreNear ts us → All (λ (t : Term)
 products_near [] us h = All-nil (λ (t : Term). IsNear greatest_exponent t.dir)
 products_near (t ∷ ts) us h =
     All-append (λ (v : Term). IsNear greatest_exponent v.dir) (map (term_product t) us) (flat_map (λ v. map (term_product v) us) ts)
-    (All-map (λ (v : Term). IsNear greatest_exponent v.dir) (term_product t) us (All-head (λ (v : Term). All (λ (u : Term). IsNear greatest_exponent (dir_sum v.dir u.dir)) us) t ts h))
+    (All-map (λ (v : Term). IsNear greatest_exponent v.dir) (term_product t) us
+    (All-head (λ (v : Term). All (λ (u : Term). IsNear greatest_exponent (dir_sum v.dir u.dir)) us) t ts h))
     (products_near ts us (All-tail (λ (v : Term). All (λ (u : Term). IsNear greatest_exponent (dir_sum v.dir u.dir)) us) t ts h))
 
 IsWithin_product : (p q : FormalPoint) → SumsAreNear (terms p) (terms q) → IsWithin greatest_exponent (p *ₚ q)
 unfolding ◌*ₚ◌
-IsWithin_product p q h = dirs-point_of (IsNear greatest_exponent) (flat_map (λ t. map (term_product t) (terms q)) (terms p)) (products_near (terms p) (terms q) h)
+IsWithin_product p q h = dirs-point_of (IsNear greatest_exponent) (flat_map (λ t. map (term_product t) (terms q)) (terms p))
+    (products_near (terms p) (terms q) h)
 
 -- the conditions of `times`
 pub limits_product : (p q : FormalPoint) → weight p * weight q ≤ greatest_weight → SumsAreNear (terms p) (terms q) → IsWithinLimits (p *ₚ q)

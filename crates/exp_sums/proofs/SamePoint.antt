@@ -7,9 +7,10 @@ use Rattle.exp_sums.specs.declared.direction.Dir.{Dir}
 use Rattle.exp_sums.specs.declared.terms.Term.{Term}
 use Rattle.exp_sums.specs.Terms.{is_same_dir, total_at}
 use Rattle.exp_sums.proofs.Totals.{same_totals, same_dir}
-use Rattle.exp_sums.specs.FormalPoint.{FormalPoint, terms, terms_canonical, same_terms, coefficient, point_of, term_of, dir_sum, dir_neg, monomial, ◌+ₚ◌, negative, ◌*ₚ◌, conj}
+use Rattle.exp_sums.specs.FormalPoint.{FormalPoint, terms, terms_canonical, same_terms, coefficient, point_of, term_of, dir_sum, dir_neg, monomial, ◌+ₚ◌}
+use Rattle.exp_sums.specs.FormalPoint.{negative, ◌*ₚ◌, conj}
 use Rattle.exp_sums.specs.Weigh.{weigh_terms, weigh_ints}
-use Rattle.exp_sums.proofs.Directions.{same_test, turned, turned_back, moved, moved_back}
+use Rattle.exp_sums.proofs.Directions.{same_test, negated, negated_back, moved, moved_back}
 use Rattle.exp_sums.proofs.Weigh.{weigh-point_of, weigh-+ₚ, weigh-negative, weigh-*ₚ, weigh-conj}
 
 -- 1 at one direction, and 0 at the others
@@ -53,14 +54,14 @@ coefficient-monomial c e d = coefficient-point_of (term_of c e ∷ []) d ∙ +�
 pub coefficient_of_monomial : (c : ℤ) (d : Dir) → coefficient (monomial c d) d ≡ c
 coefficient_of_monomial c d = coefficient-monomial c d d ∙ rw (same_dir d) refl
 
-pub only_turned : (d e : Dir) → only_at d (dir_neg e) ≡ only_at (dir_neg d) e
-only_turned d e = ap (λ b. if b then pos 1 else pos 0) (same_test d (dir_neg e) (dir_neg d) e (turned d e) (turned_back d e))
+pub only_conjugate : (d e : Dir) → only_at d (dir_neg e) ≡ only_at (dir_neg d) e
+only_conjugate d e = ap (λ b. if b then pos 1 else pos 0) (same_test d (dir_neg e) (dir_neg d) e (negated d e) (negated_back d e))
 
 pub coefficient-conj : (p : FormalPoint) (d : Dir) → coefficient (conj p) d ≡ coefficient p (dir_neg d)
 coefficient-conj p d =
     coefficient_is (conj p) d
     ∙ weigh-conj ℤ_ring ℤ_image (only_at d) p
-    ∙ (λ i. weigh_ints (λ e. only_turned d e i) p)
+    ∙ (λ i. weigh_ints (λ e. only_conjugate d e i) p)
     ∙ sym (coefficient_is p (dir_neg d))
 
 only_moved : (d e u : Dir) → only_at d (dir_sum e u) ≡ only_at (dir_sum d (dir_neg e)) u

@@ -1,5 +1,6 @@
 -- What sums over sine forms are, and so their coefficients, and which operations sine forms keep.
-use Rattle.std.proofs.Common.{◌≡◌, ◌≢◌, Bool, true, false, true≢false, List, [], ◌∷◌, ℤ, zero, suc, pos, negsuc, ◌+ℤ◌, ◌-ℤ◌, ◌*ℤ◌, neg_ℤ, if◌then◌else◌, refl, sym, ap, ap₂, ◌∙◌, arith}
+use Rattle.std.proofs.Common.{◌≡◌, ◌≢◌, Bool, true, false, true≢false, List, [], ◌∷◌, ℤ, zero, suc, pos, negsuc, ◌+ℤ◌, ◌-ℤ◌, ◌*ℤ◌, neg_ℤ, if◌then◌else◌}
+use Rattle.std.proofs.Common.{refl, sym, ap, ap₂, ◌∙◌, arith}
 use Rattle.std.specs.List.{flat_map}
 use Rattle.std.proofs.lemmas.Int.{ints}
 use Rattle.ring_solver.specs.Ring.{CommutativeRing, Image}
@@ -9,17 +10,17 @@ use Rattle.ring_solver.proofs.Whole.{ℤ_ring, ℤ_image}
 use Rattle.exp_sums.specs.declared.direction.Dir.{Dir}
 use Rattle.exp_sums.specs.declared.terms.Term.{Term}
 use Rattle.exp_sums.specs.Terms.{is_same_dir}
-use Rattle.exp_sums.specs.FormalPoint.{FormalPoint, terms, coefficient, dir_neg}
+use Rattle.exp_sums.specs.FormalPoint.{FormalPoint, terms, coefficient, term_neg, term_conj, dir_neg}
 use Rattle.exp_sums.specs.Weigh.{weigh_terms, weigh, weigh_ints}
-use Rattle.exp_sums.specs.SineForm.{is_upper, term_turned, sine_terms, sine_form}
+use Rattle.exp_sums.specs.SineForm.{is_upper, sine_terms, sine_form}
 use Rattle.exp_sums.proofs.Directions.{is_same_dir-Decides}
 use Rattle.exp_sums.proofs.Weigh.{weigh_terms-append, weigh-point_of, weigh_same, weigh_scaled, weigh_summed}
-use Rattle.exp_sums.proofs.SamePoint.{only_at, only_turned, coefficient_is}
+use Rattle.exp_sums.proofs.SamePoint.{only_at, only_conjugate, coefficient_is}
 
 -- ---- the half of the directions that is upper
--- a direction and the one turned round are not both upper
-turned_is_lower : (d : Dir) → is_upper d ≡ true → is_upper (dir_neg d) ≡ false
-turned_is_lower d h = by_numbers d.m d.n h
+-- a direction and its conjugate are not both upper
+conjugate_is_lower : (d : Dir) → is_upper d ≡ true → is_upper (dir_neg d) ≡ false
+conjugate_is_lower d h = by_numbers d.m d.n h
   where
     by_numbers : (m n : ℤ) → is_upper (record { m = m; n = n }) ≡ true → is_upper (record { m = neg_ℤ m; n = neg_ℤ n }) ≡ false
     by_numbers (pos zero) (pos zero) h = absurd (true≢false (sym h))
@@ -50,7 +51,8 @@ module _ (K : CommutativeRing) (image : Image K) where
   weigh-sine_terms : (f : Dir → K.Element) (t : Term) → weigh_terms K image f (sine_terms t) ≡ K.mul (image.of t.c) (on_half f t.dir)
   weigh-sine_terms f t = by_tests (is_upper t.dir) (is_upper (dir_neg t.dir))
     where
-      by_tests : (a b : Bool) → weigh_terms K image f (if a then t ∷ [] else (if b then term_turned t ∷ [] else [])) ≡ K.mul (image.of t.c) (if a then f t.dir else (if b then K.neg (f (dir_neg t.dir)) else K.whole 0))
+      by_tests : (a b : Bool) → weigh_terms K image f (if a then t ∷ [] else (if b then term_neg (term_conj t) ∷ [] else [])) ≡ K.mul (image.of t.c)
+          (if a then f t.dir else (if b then K.neg (f (dir_neg t.dir)) else K.whole 0))
       by_tests true b = K.add-zero (K.mul (image.of t.c) (f t.dir))
       by_tests false true =
           K.add-zero (K.mul (image.of (neg_ℤ t.c)) (f (dir_neg t.dir)))
@@ -60,7 +62,8 @@ module _ (K : CommutativeRing) (image : Image K) where
 
   weigh_terms-sines : (f : Dir → K.Element) (ts : List Term) → weigh_terms K image f (flat_map sine_terms ts) ≡ weigh_terms K image (on_half f) ts
   weigh_terms-sines f [] = refl
-  weigh_terms-sines f (t ∷ ts) = weigh_terms-append K image f (sine_terms t) (flat_map sine_terms ts) ∙ ap₂ K.add (weigh-sine_terms f t) (weigh_terms-sines f ts)
+  weigh_terms-sines f (t ∷ ts) = weigh_terms-append K image f (sine_terms t) (flat_map sine_terms ts)
+      ∙ ap₂ K.add (weigh-sine_terms f t) (weigh_terms-sines f ts)
 
   pub weigh-sine_form : (f : Dir → K.Element) (p : FormalPoint) → weigh K image f (sine_form p) ≡ weigh K image (on_half f) p
   unfolding sine_form
@@ -71,29 +74,31 @@ in_ints : (f : Dir → ℤ) (p : FormalPoint) → weigh_ints f (sine_form p) ≡
 in_ints = weigh-sine_form ℤ_ring ℤ_image
 
 -- ---- the coefficients of a sine form
--- at an upper direction it counts that direction less the one turned round
+-- at an upper direction it counts that direction less its conjugate
 at_upper : (d : Dir) → is_upper d ≡ true → (e : Dir) → on_half ℤ_ring ℤ_image (only_at d) e ≡ only_at d e +ℤ negsuc 0 *ℤ only_at (dir_neg d) e
 at_upper d h e = by_tests (is_upper e) (is_upper (dir_neg e)) refl refl
   where
-    by_tests : (a b : Bool) → is_upper e ≡ a → is_upper (dir_neg e) ≡ b → (if a then only_at d e else (if b then neg_ℤ (only_at d (dir_neg e)) else pos 0)) ≡ only_at d e +ℤ negsuc 0 *ℤ only_at (dir_neg d) e
+    by_tests : (a b : Bool) → is_upper e ≡ a → is_upper (dir_neg e) ≡ b →
+        (if a then only_at d e else (if b then neg_ℤ (only_at d (dir_neg e)) else pos 0)) ≡ only_at d e +ℤ negsuc 0 *ℤ only_at (dir_neg d) e
     by_tests true b x y =
-        let none = apart (dir_neg d) e (false_and_true _ _ (turned_is_lower d h) x) in
+        let none = apart (dir_neg d) e (false_and_true _ _ (conjugate_is_lower d h) x) in
         omega (arith, ints, none)
     by_tests false true x y =
         let none = apart d e (true_and_false _ _ h x) in
-        let same = only_turned d e in
+        let same = only_conjugate d e in
         omega (arith, ints, none, same)
     by_tests false false x y =
         let none = apart d e (true_and_false _ _ h x) in
-        let none_turned = apart d (dir_neg e) (true_and_false _ _ h y) in
-        let same = only_turned d e in
-        omega (arith, ints, none, none_turned, same)
+        let none_conjugate = apart d (dir_neg e) (true_and_false _ _ h y) in
+        let same = only_conjugate d e in
+        omega (arith, ints, none, none_conjugate, same)
 
 -- and at any other direction nothing
 at_other : (d : Dir) → is_upper d ≡ false → (e : Dir) → on_half ℤ_ring ℤ_image (only_at d) e ≡ pos 0 *ℤ only_at d e
 at_other d h e = by_tests (is_upper e) (is_upper (dir_neg e)) refl refl
   where
-    by_tests : (a b : Bool) → is_upper e ≡ a → is_upper (dir_neg e) ≡ b → (if a then only_at d e else (if b then neg_ℤ (only_at d (dir_neg e)) else pos 0)) ≡ pos 0 *ℤ only_at d e
+    by_tests : (a b : Bool) → is_upper e ≡ a → is_upper (dir_neg e) ≡ b →
+        (if a then only_at d e else (if b then neg_ℤ (only_at d (dir_neg e)) else pos 0)) ≡ pos 0 *ℤ only_at d e
     by_tests true b x y =
         let none = apart d e (false_and_true _ _ h x) in
         omega (arith, ints, none)
@@ -102,10 +107,12 @@ at_other d h e = by_tests (is_upper e) (is_upper (dir_neg e)) refl refl
         omega (arith, ints, none)
     by_tests false false x y = omega (arith, ints)
 
-pub coefficient-sine_form : (p : FormalPoint) (d : Dir) → coefficient (sine_form p) d ≡ (if is_upper d then coefficient p d -ℤ coefficient p (dir_neg d) else pos 0)
+pub coefficient-sine_form : (p : FormalPoint) (d : Dir) →
+    coefficient (sine_form p) d ≡ (if is_upper d then coefficient p d -ℤ coefficient p (dir_neg d) else pos 0)
 coefficient-sine_form p d = coefficient_is (sine_form p) d ∙ in_ints (only_at d) p ∙ by_test (is_upper d) refl
   where
-    by_test : (a : Bool) → is_upper d ≡ a → weigh_ints (on_half ℤ_ring ℤ_image (only_at d)) p ≡ (if a then coefficient p d -ℤ coefficient p (dir_neg d) else pos 0)
+    by_test : (a : Bool) → is_upper d ≡ a →
+        weigh_ints (on_half ℤ_ring ℤ_image (only_at d)) p ≡ (if a then coefficient p d -ℤ coefficient p (dir_neg d) else pos 0)
     by_test true h =
         let summed = weigh_summed ℤ_ring ℤ_image (only_at d) (λ e. negsuc 0 *ℤ only_at (dir_neg d) e) p in
         let scaled = weigh_scaled ℤ_ring ℤ_image (only_at (dir_neg d)) (negsuc 0) p in

@@ -49,7 +49,8 @@ differs_before t ts us h before same = is_not_zero t.c h.not_zero (sym (total_fi
 same_rest : (d : Dir) (t u : Term) (ts us : List Term) → t ≡ u → total_at d (t ∷ ts) ≡ total_at d (u ∷ us) → total_at d ts ≡ total_at d us
 same_rest d t u ts us e same =
     let front : ℤ = if is_same_dir d u.dir then u.c else pos 0 in
-    let h : front +ℤ total_at d ts ≡ front +ℤ total_at d us = subst (λ (v : Term). (if is_same_dir d v.dir then v.c else pos 0) +ℤ total_at d ts ≡ front +ℤ total_at d us) e same in
+    let h : front +ℤ total_at d ts ≡ front +ℤ total_at d us =
+    subst (λ (v : Term). (if is_same_dir d v.dir then v.c else pos 0) +ℤ total_at d ts ≡ front +ℤ total_at d us) e same in
     omega (arith, ints, h)
 
 -- canonical lists with the same totals are the same

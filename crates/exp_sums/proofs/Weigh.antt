@@ -10,7 +10,8 @@ use Rattle.exp_sums.specs.declared.terms.Term.{Term}
 use Rattle.exp_sums.specs.Terms.{dir_cmp, cons_term, put_term, normal}
 use Rattle.exp_sums.specs.Canonical.{cons_has, chosen}
 use Rattle.exp_sums.proofs.Totals.{dir_is}
-use Rattle.exp_sums.specs.FormalPoint.{FormalPoint, terms, point_of, terms-point_of, term_of, term_neg, term_conj, term_product, dir_sum, dir_neg, zero_dir, monomial, zero_point, one_point, ◌+ₚ◌, negative, ◌*ₚ◌, conj}
+use Rattle.exp_sums.specs.FormalPoint.{FormalPoint, terms, point_of, terms-point_of, term_of, term_neg, term_conj, term_product, dir_sum, dir_neg, zero_dir}
+use Rattle.exp_sums.specs.FormalPoint.{monomial, zero_point, one_point, ◌+ₚ◌, negative, ◌*ₚ◌, conj}
 use Rattle.exp_sums.specs.Weigh.{weigh_terms, weigh}
 
 -- ---- steps in any ring
@@ -35,19 +36,22 @@ module _ (K : CommutativeRing) where
 
 module _ (K : CommutativeRing) (image : Image K) where
   -- ---- sums over lists of terms
-  pub weigh_terms-append : (f : Dir → K.Element) (ts us : List Term) → weigh_terms K image f (ts ++ us) ≡ K.add (weigh_terms K image f ts) (weigh_terms K image f us)
+  pub weigh_terms-append : (f : Dir → K.Element) (ts us : List Term) →
+      weigh_terms K image f (ts ++ us) ≡ K.add (weigh_terms K image f ts) (weigh_terms K image f us)
   weigh_terms-append f [] us = sym (zero-add' K (weigh_terms K image f us))
   weigh_terms-append f (t ∷ ts) us =
       ap (K.add (K.mul (image.of t.c) (f t.dir))) (weigh_terms-append f ts us)
       ∙ sym (K.add_assoc (K.mul (image.of t.c) (f t.dir)) (weigh_terms K image f ts) (weigh_terms K image f us))
 
-  weigh_terms-cons_term : (f : Dir → K.Element) (t : Term) (ts : List Term) → weigh_terms K image f (cons_term t ts) ≡ K.add (K.mul (image.of t.c) (f t.dir)) (weigh_terms K image f ts)
+  weigh_terms-cons_term : (f : Dir → K.Element) (t : Term) (ts : List Term) →
+      weigh_terms K image f (cons_term t ts) ≡ K.add (K.mul (image.of t.c) (f t.dir)) (weigh_terms K image f ts)
   weigh_terms-cons_term f t ts =
       cons_has (λ us. weigh_terms K image f us ≡ K.add (K.mul (image.of t.c) (f t.dir)) (weigh_terms K image f ts)) t ts
       (λ _. refl)
       (λ (is : t.c ≡ pos 0). rw is (rw (image.of-pos 0) (rw (zero-mul' K (f t.dir)) (sym (zero-add' K (weigh_terms K image f ts))))))
 
-  pub weigh_terms-put : (f : Dir → K.Element) (t : Term) (us : List Term) → weigh_terms K image f (put_term t us) ≡ K.add (K.mul (image.of t.c) (f t.dir)) (weigh_terms K image f us)
+  pub weigh_terms-put : (f : Dir → K.Element) (t : Term) (us : List Term) →
+      weigh_terms K image f (put_term t us) ≡ K.add (K.mul (image.of t.c) (f t.dir)) (weigh_terms K image f us)
   weigh_terms-put f t [] = weigh_terms-cons_term f t []
   weigh_terms-put f t (u ∷ us) =
       let rest = weigh_terms K image f us in
@@ -58,7 +62,8 @@ module _ (K : CommutativeRing) (image : Image K) where
       ∙ ap (λ a. K.add (K.mul a (f u.dir)) rest) (image.of-add t.c u.c)
       ∙ add-mul-add K (image.of t.c) (image.of u.c) (f u.dir) rest
       ∙ ap (λ d. K.add (K.mul (image.of t.c) (f d)) (weigh_terms K image f (u ∷ us))) (sym (dir_is t.dir u.dir equal)))
-      (λ _. ap (K.add (K.mul (image.of u.c) (f u.dir))) (weigh_terms-put f t us) ∙ add_left_comm K (K.mul (image.of u.c) (f u.dir)) (K.mul (image.of t.c) (f t.dir)) rest)
+      (λ _. ap (K.add (K.mul (image.of u.c) (f u.dir))) (weigh_terms-put f t us)
+      ∙ add_left_comm K (K.mul (image.of u.c) (f u.dir)) (K.mul (image.of t.c) (f t.dir)) rest)
 
   -- the canonical form keeps each sum
   weigh_terms-normal : (f : Dir → K.Element) (ts : List Term) → weigh_terms K image f (normal ts) ≡ weigh_terms K image f ts
@@ -73,7 +78,8 @@ module _ (K : CommutativeRing) (image : Image K) where
       ∙ mul-mul-add K (image.of t.c) a (f t.dir) (weigh_terms K image f ts)
 
   -- a sum of two weights
-  weigh_terms_summed : (f g : Dir → K.Element) (ts : List Term) → weigh_terms K image (λ d. K.add (f d) (g d)) ts ≡ K.add (weigh_terms K image f ts) (weigh_terms K image g ts)
+  weigh_terms_summed : (f g : Dir → K.Element) (ts : List Term) →
+      weigh_terms K image (λ d. K.add (f d) (g d)) ts ≡ K.add (weigh_terms K image f ts) (weigh_terms K image g ts)
   weigh_terms_summed f g [] = sym (zero-add' K (K.whole 0))
   weigh_terms_summed f g (t ∷ ts) =
       ap (K.add (K.mul (image.of t.c) (K.add (f t.dir) (g t.dir)))) (weigh_terms_summed f g ts)
@@ -82,10 +88,12 @@ module _ (K : CommutativeRing) (image : Image K) where
   weigh_terms_zero : (ts : List Term) → weigh_terms K image (λ d. K.whole 0) ts ≡ K.whole 0
   weigh_terms_zero [] = refl
   weigh_terms_zero (t ∷ ts) =
-      ap (K.add (K.mul (image.of t.c) (K.whole 0))) (weigh_terms_zero ts) ∙ K.add-zero (K.mul (image.of t.c) (K.whole 0)) ∙ K.mul_comm (image.of t.c) (K.whole 0) ∙ zero-mul' K (image.of t.c)
+      ap (K.add (K.mul (image.of t.c) (K.whole 0))) (weigh_terms_zero ts) ∙ K.add-zero (K.mul (image.of t.c) (K.whole 0))
+      ∙ K.mul_comm (image.of t.c) (K.whole 0) ∙ zero-mul' K (image.of t.c)
 
   -- two sums change places
-  weigh_terms_exchanged : (f : Dir → Dir → K.Element) (ts us : List Term) → weigh_terms K image (λ d. weigh_terms K image (f d) us) ts ≡ weigh_terms K image (λ e. weigh_terms K image (λ d. f d e) ts) us
+  weigh_terms_exchanged : (f : Dir → Dir → K.Element) (ts us : List Term) →
+      weigh_terms K image (λ d. weigh_terms K image (f d) us) ts ≡ weigh_terms K image (λ e. weigh_terms K image (λ d. f d e) ts) us
   weigh_terms_exchanged f [] us = sym (weigh_terms_zero us)
   weigh_terms_exchanged f (t ∷ ts) us =
       ap₂ K.add (sym (weigh_terms_scaled (f t.dir) (image.of t.c) us)) (weigh_terms_exchanged f ts us)
@@ -100,12 +108,16 @@ module _ (K : CommutativeRing) (image : Image K) where
   weigh_terms-conj f (t ∷ ts) = ap (K.add (K.mul (image.of t.c) (f (dir_neg t.dir)))) (weigh_terms-conj f ts)
 
   -- one term times a list
-  weigh_terms-times : (f : Dir → K.Element) (t : Term) (us : List Term) → weigh_terms K image f (map (term_product t) us) ≡ K.mul (image.of t.c) (weigh_terms K image (λ e. f (dir_sum t.dir e)) us)
+  weigh_terms-times : (f : Dir → K.Element) (t : Term) (us : List Term) →
+      weigh_terms K image f (map (term_product t) us) ≡ K.mul (image.of t.c) (weigh_terms K image (λ e. f (dir_sum t.dir e)) us)
   weigh_terms-times f t [] = sym (K.mul_comm (image.of t.c) (K.whole 0) ∙ zero-mul' K (image.of t.c))
   weigh_terms-times f t (u ∷ us) =
-      rw (image.of-mul t.c u.c) (rw (weigh_terms-times f t us) (mul_assoc-add K (image.of t.c) (image.of u.c) (f (dir_sum t.dir u.dir)) (weigh_terms K image (λ e. f (dir_sum t.dir e)) us)))
+      rw (image.of-mul t.c u.c)
+      (rw (weigh_terms-times f t us)
+      (mul_assoc-add K (image.of t.c) (image.of u.c) (f (dir_sum t.dir u.dir)) (weigh_terms K image (λ e. f (dir_sum t.dir e)) us)))
 
-  weigh_terms-products : (f : Dir → K.Element) (ts us : List Term) → weigh_terms K image f (flat_map (λ t. map (term_product t) us) ts) ≡ weigh_terms K image (λ d. weigh_terms K image (λ e. f (dir_sum d e)) us) ts
+  weigh_terms-products : (f : Dir → K.Element) (ts us : List Term) →
+      weigh_terms K image f (flat_map (λ t. map (term_product t) us) ts) ≡ weigh_terms K image (λ d. weigh_terms K image (λ e. f (dir_sum d e)) us) ts
   weigh_terms-products f [] us = refl
   weigh_terms-products f (t ∷ ts) us =
       weigh_terms-append f (map (term_product t) us) (flat_map (λ v. map (term_product v) us) ts)
@@ -142,7 +154,8 @@ module _ (K : CommutativeRing) (image : Image K) where
   unfolding conj
   weigh-conj f p = weigh-point_of f (map term_conj (terms p)) ∙ weigh_terms-conj f (terms p)
 
-  pub weigh_exchanged : (f : Dir → Dir → K.Element) (p q : FormalPoint) → weigh K image (λ d. weigh K image (f d) q) p ≡ weigh K image (λ e. weigh K image (λ d. f d e) p) q
+  pub weigh_exchanged : (f : Dir → Dir → K.Element) (p q : FormalPoint) →
+      weigh K image (λ d. weigh K image (f d) q) p ≡ weigh K image (λ e. weigh K image (λ d. f d e) p) q
   weigh_exchanged f p q = weigh_terms_exchanged f (terms p) (terms q)
 
   pub weigh_scaled : (f : Dir → K.Element) (a : K.Element) (p : FormalPoint) → weigh K image (λ d. K.mul a (f d)) p ≡ K.mul a (weigh K image f p)

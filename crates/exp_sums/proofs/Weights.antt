@@ -8,7 +8,8 @@ use Rattle.exp_sums.specs.declared.direction.Dir.{Dir}
 use Rattle.exp_sums.specs.declared.terms.Term.{Term}
 use Rattle.exp_sums.specs.Terms.{dir_cmp, is_same_dir, total_at, cons_term, put_term, normal}
 use Rattle.exp_sums.specs.Canonical.{cons_has, chosen}
-use Rattle.exp_sums.specs.FormalPoint.{FormalPoint, terms, point_of, terms-point_of, coefficient, term_of, term_neg, term_conj, term_product, zero_dir, monomial, zero_point, ◌+ₚ◌, negative, ◌*ₚ◌, conj}
+use Rattle.exp_sums.specs.FormalPoint.{FormalPoint, terms, point_of, terms-point_of, coefficient, term_of, term_neg, term_conj, term_product, zero_dir}
+use Rattle.exp_sums.specs.FormalPoint.{monomial, zero_point, ◌+ₚ◌, negative, ◌*ₚ◌, conj}
 use Rattle.exp_sums.specs.Limits.{terms_weight, weight}
 use Rattle.exp_sums.proofs.SamePoint.{coefficient_of_monomial}
 use Rattle.exp_sums.proofs.PointRing.{negative-negative, conj-conj}
@@ -53,12 +54,25 @@ weight_map f same (t ∷ ts) = omega (arith, same t, weight_map f same ts, terms
 pub weight_times : (t : Term) (us : List Term) → terms_weight (map (term_product t) us) ≡ unsigned_abs t.c * terms_weight us
 weight_times t [] = omega arith
 weight_times t (u ∷ us) =
-    omega (arith, unsigned_abs-mul t.c u.c, weight_times t us, terms_weight-cons u us, terms_weight-cons (term_product t u) (map (term_product t) us), ap (λ n. unsigned_abs t.c * n) (terms_weight-cons u us))
+    omega (
+      arith,
+      unsigned_abs-mul t.c u.c,
+      weight_times t us,
+      terms_weight-cons u us,
+      terms_weight-cons (term_product t u) (map (term_product t) us),
+      ap (λ n. unsigned_abs t.c * n) (terms_weight-cons u us),
+    )
 
 pub weight_products : (ts us : List Term) → terms_weight (flat_map (λ t. map (term_product t) us) ts) ≡ terms_weight ts * terms_weight us
 weight_products [] us = omega arith
 weight_products (t ∷ ts) us =
-    omega (arith, terms_weight-append (map (term_product t) us) (flat_map (λ v. map (term_product v) us) ts), weight_times t us, weight_products ts us, ap (λ n. n * terms_weight us) (terms_weight-cons t ts))
+    omega (
+      arith,
+      terms_weight-append (map (term_product t) us) (flat_map (λ v. map (term_product v) us) ts),
+      weight_times t us,
+      weight_products ts us,
+      ap (λ n. n * terms_weight us) (terms_weight-cons t ts),
+    )
 
 pub weight-+ₚ : (p q : FormalPoint) → weight (p +ₚ q) ≤ weight p + weight q
 unfolding ◌+ₚ◌

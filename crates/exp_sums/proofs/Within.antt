@@ -7,7 +7,8 @@ use Rattle.exp_sums.specs.declared.direction.Dir.{Dir}
 use Rattle.exp_sums.specs.declared.terms.Term.{Term}
 use Rattle.exp_sums.specs.Terms.{dir_cmp, put_term, normal}
 use Rattle.exp_sums.specs.Canonical.{cons_has, chosen}
-use Rattle.exp_sums.specs.FormalPoint.{FormalPoint, terms, point_of, terms-point_of, term_of, term_neg, term_conj, term_product, dir_neg, dir_sum, zero_dir, monomial, zero_point, ◌+ₚ◌, negative, ◌*ₚ◌, conj}
+use Rattle.exp_sums.specs.FormalPoint.{FormalPoint, terms, point_of, terms-point_of, term_of, term_neg, term_conj, term_product, dir_neg, dir_sum, zero_dir}
+use Rattle.exp_sums.specs.FormalPoint.{monomial, zero_point, ◌+ₚ◌, negative, ◌*ₚ◌, conj}
 use Rattle.exp_sums.specs.Limits.{IsNear, IsWithin}
 
 -- a property of directions that each term of a list has
@@ -44,7 +45,8 @@ near_neg b d h = record { m = omega (arith, ints, h.m); n = omega (arith, ints, 
 
 pub IsWithin-weaker : (a b : ℕ) (p : FormalPoint) → a ≤ b → IsWithin a p → IsWithin b p
 IsWithin-weaker a b p le h =
-    All-weaker (λ (t : Term). IsNear a t.dir) (λ (t : Term). IsNear b t.dir) (λ t k. record { m = omega (arith, k.m, le); n = omega (arith, k.n, le) }) (terms p) h
+    All-weaker (λ (t : Term). IsNear a t.dir) (λ (t : Term). IsNear b t.dir)
+    (λ t k. record { m = omega (arith, k.m, le); n = omega (arith, k.n, le) }) (terms p) h
 
 pub IsWithin-monomial : (b : ℕ) (c : ℤ) (d : Dir) → IsNear b d → IsWithin b (monomial c d)
 unfolding monomial
@@ -71,12 +73,14 @@ IsWithin-conj b p h =
     (All-map (λ (t : Term). IsNear b t.dir) term_conj (terms p)
     (All-weaker (λ (t : Term). IsNear b t.dir) (λ (t : Term). IsNear b (dir_neg t.dir)) (λ t k. near_neg b t.dir k) (terms p) h))
 
-products_near : (a b : ℕ) (ts us : List Term) → All (λ (t : Term). IsNear a t.dir) ts → All (λ (u : Term). IsNear b u.dir) us → All (λ (t : Term). IsNear (a + b) t.dir) (flat_map (λ t. map (term_product t) us) ts)
+products_near : (a b : ℕ) (ts us : List Term) → All (λ (t : Term). IsNear a t.dir) ts → All (λ (u : Term). IsNear b u.dir) us →
+    All (λ (t : Term). IsNear (a + b) t.dir) (flat_map (λ t. map (term_product t) us) ts)
 products_near a b [] us h k = All-nil (λ (t : Term). IsNear (a + b) t.dir)
 products_near a b (t ∷ ts) us h k =
     All-append (λ (v : Term). IsNear (a + b) v.dir) (map (term_product t) us) (flat_map (λ v. map (term_product v) us) ts)
     (All-map (λ (v : Term). IsNear (a + b) v.dir) (term_product t) us
-    (All-weaker (λ (u : Term). IsNear b u.dir) (λ (u : Term). IsNear (a + b) (dir_sum t.dir u.dir)) (λ u g. near_sum a b t.dir u.dir (All-head (λ (v : Term). IsNear a v.dir) t ts h) g) us k))
+    (All-weaker (λ (u : Term). IsNear b u.dir) (λ (u : Term). IsNear (a + b) (dir_sum t.dir u.dir))
+    (λ u g. near_sum a b t.dir u.dir (All-head (λ (v : Term). IsNear a v.dir) t ts h) g) us k))
     (products_near a b ts us (All-tail (λ (v : Term). IsNear a v.dir) t ts h) k)
 
 pub IsWithin-*ₚ : (a b : ℕ) (p q : FormalPoint) → IsWithin a p → IsWithin b q → IsWithin (a + b) (p *ₚ q)

@@ -14,7 +14,7 @@ use Rattle.exp_sums.specs.Terms.{dir_cmp, is_before_all, is_canonical, cons_term
 pub dir_cmp_total : IsTotalOrder dir_cmp
 dir_cmp_total = then_total (on_total (λ (d : Dir). d.m) int_cmp_total) (on_total (λ (d : Dir). d.n) int_cmp_total)
 
--- turned round
+-- and the other way round
 pub dir_after : (d e : Dir) → dir_cmp d e ≡ Greater → dir_cmp e d ≡ Less
 dir_after d e h = dir_cmp_total.antisymm e d ∙ ap ordering_reverse h
 
@@ -45,7 +45,8 @@ canonical_parts t ts h =
 
 pub canonical_whole : (t : Term) (ts : List Term) → IsCanonicalCons t ts → T (is_canonical (t ∷ ts))
 canonical_whole t ts h =
-    and_from (not (int_eq t.c (pos 0))) (is_before_all t.dir ts && is_canonical ts) h.not_zero (and_from (is_before_all t.dir ts) (is_canonical ts) h.before h.rest)
+    and_from (not (int_eq t.c (pos 0))) (is_before_all t.dir ts && is_canonical ts) h.not_zero
+    (and_from (is_before_all t.dir ts) (is_canonical ts) h.before h.rest)
 
 -- ---- one more term
 -- what comes before all of a list, comes before it with a term in front
@@ -68,7 +69,8 @@ cons_has P t ts with_it without_it = by_test (int_eq t.c (pos 0)) with_it (λ is
     by_test false f g = f tt
 
 -- a property of each list that an order may choose
-pub chosen : (P : List Term → Type 0) (o : Ordering) (a b c : List Term) → (o ≡ Less → P a) → (o ≡ Equal → P b) → (o ≡ Greater → P c) → P (match_ordering o a b c)
+pub chosen : (P : List Term → Type 0) (o : Ordering) (a b c : List Term) → (o ≡ Less → P a) → (o ≡ Equal → P b) → (o ≡ Greater → P c) →
+    P (match_ordering o a b c)
 chosen P Less a b c f g h = f refl
 chosen P Equal a b c f g h = g refl
 chosen P Greater a b c f g h = h refl
@@ -89,9 +91,18 @@ is_canonical-put t (u ∷ us) h =
     let first = canonical_parts u us h in
     let sum : Term = record { dir = u.dir; c = t.c +ℤ u.c } in
     chosen (λ ts. T (is_canonical ts)) (dir_cmp t.dir u.dir) _ _ _
-    (λ less. cons_has (λ ts. T (is_canonical ts)) t (u ∷ us) (λ n. canonical_whole t (u ∷ us) (record { not_zero = n; before = before_cons t.dir u us less (before_trans t.dir u.dir us less first.before); rest = h })) (λ _. h))
-    (λ _. cons_has (λ ts. T (is_canonical ts)) sum us (λ n. canonical_whole sum us (record { not_zero = n; before = first.before; rest = first.rest })) (λ _. first.rest))
-    (λ greater. canonical_whole u (put_term t us) (record { not_zero = first.not_zero; before = before_put u.dir t us (dir_after t.dir u.dir greater) first.before; rest = is_canonical-put t us first.rest }))
+    (λ less. cons_has (λ ts. T (is_canonical ts)) t (u ∷ us)
+    (λ n. canonical_whole t (u ∷ us)
+    (record { not_zero = n; before = before_cons t.dir u us less (before_trans t.dir u.dir us less first.before); rest = h })) (λ _. h))
+    (λ _. cons_has (λ ts. T (is_canonical ts)) sum us (λ n. canonical_whole sum us (record { not_zero = n; before = first.before; rest = first.rest }))
+    (λ _. first.rest))
+    (λ greater. canonical_whole u (put_term t us)
+    (record {
+      not_zero = first.not_zero;
+      before = before_put u.dir t us (dir_after t.dir u.dir greater) first.before;
+      rest =
+          is_canonical-put t us first.rest;
+    }))
 
 pub is_canonical-normal : (ts : List Term) → T (is_canonical (normal ts))
 is_canonical-normal [] = tt

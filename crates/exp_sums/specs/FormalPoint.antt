@@ -1,6 +1,8 @@
 -- Formal points: finite sums of directions with whole coefficients, the elements of the group ring of ℤ×ℤ (Lang, Algebra, chapter II).
--- The direction (m, n) stands for e^{iπ(mx+ny)}. A formal point is a finite map from directions to whole numbers other than 0, read as the sum of c·e^{iπ(mx+ny)} over its terms.
--- Each operation below lists terms and brings the list to its canonical form. What is meant by them are the sentences of `Laws`, which speak of coefficients alone.
+-- The direction (m, n) stands for e^{iπ(mx+ny)}. A formal point is a finite map from directions
+-- to whole numbers other than 0, read as the sum of c·e^{iπ(mx+ny)} over its terms.
+-- Each operation below lists terms and brings the list to its canonical form. What is
+-- meant by them are the sentences of `Laws`, which speak of coefficients alone.
 use Rattle.std.proofs.Common.{◌≡◌, ℕ, List, [], ◌∷◌, ◌++◌, map, ℤ, pos, ◌+ℤ◌, ◌*ℤ◌, neg_ℤ, refl, T}
 use Rattle.std.specs.List.{flat_map}
 use Rattle.std.specs.Coded.{Coded, coded_list}
@@ -99,6 +101,6 @@ p -ₚ q = p +ₚ negative q
 unfoldable pub ◌*ₚ◌ : FormalPoint → FormalPoint → FormalPoint
 p *ₚ q = point_of (flat_map (λ t. map (term_product t) (terms q)) (terms p))
 
--- the conjugate turns each direction round
+-- the conjugate negates both numbers of each direction
 unfoldable pub conj : FormalPoint → FormalPoint
 conj p = point_of (map term_conj (terms p))

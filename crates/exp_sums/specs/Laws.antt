@@ -33,9 +33,10 @@ NegativesNegateCoefficients = (p : FormalPoint) (d : Dir) → coefficient (negat
 abbrev pub ProductsConvolve : Type 0
 ProductsConvolve = (p q : FormalPoint) (d : Dir) → coefficient (p *ₚ q) d ≡ weigh_ints (λ e. coefficient q (dir_sum d (dir_neg e))) p
 
-abbrev pub ConjugatesTurnDirections : Type 0
-ConjugatesTurnDirections = (p : FormalPoint) (d : Dir) → coefficient (conj p) d ≡ coefficient p (dir_neg d)
+abbrev pub ConjugatesNegateDirections : Type 0
+ConjugatesNegateDirections = (p : FormalPoint) (d : Dir) → coefficient (conj p) d ≡ coefficient p (dir_neg d)
 
 -- c(m, n) − c(−m, −n) at the directions with m > 0, or with m = 0 and n > 0, and none at the others
-abbrev pub SineFormsSubtractTurned : Type 0
-SineFormsSubtractTurned = (p : FormalPoint) (d : Dir) → coefficient (sine_form p) d ≡ (if is_upper d then coefficient p d -ℤ coefficient p (dir_neg d) else pos 0)
+abbrev pub SineFormsSubtractConjugates : Type 0
+SineFormsSubtractConjugates = (p : FormalPoint) (d : Dir) →
+    coefficient (sine_form p) d ≡ (if is_upper d then coefficient p d -ℤ coefficient p (dir_neg d) else pos 0)

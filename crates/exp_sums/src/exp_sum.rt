@@ -6,11 +6,11 @@ ghost use Rattle.exp_sums.specs.Reach.{reach};
 ghost use Rattle.exp_sums.specs.Products.{SumsAreNear};
 ghost use Rattle.exp_sums.specs.Limits.{IsKept, IsWithinLimits, weight, greatest_weight};
 
+use crate::conjugates::{put_all_conj, put_all_sines};
 use crate::direction::Dir;
 use crate::products::put_products;
 use crate::sizes::{reach_of, weight_of};
 use crate::terms::{Term, Terms, make_room, place_of, put, put_all, put_all_negated};
-use crate::turns::{put_all_conj, put_all_sines};
 use smallvec::SmallVec;
 use std::alloc::{AllocError as OutOfMemory, Global};
 use std::marker::Model;
@@ -43,6 +43,15 @@ impl ExpSum {
         ExpSum {
             terms: SmallVec::new(alloc),
         }
+    }
+
+    /// The same sum once more.
+    pub fn copied(&self, alloc: Global) -> Result<ExpSum, OutOfMemory>
+        ensures { IfOk result (λ p. p ≡ self.now) }
+    {
+        Ok(ExpSum {
+            terms: SmallVec::from_slice(alloc, &self.terms)?,
+        })
     }
 
     /// The terms, by rising directions. None has the coefficient 0.
@@ -97,7 +106,7 @@ impl ExpSum {
         Ok(())
     }
 
-    /// The conjugate, each of whose directions is turned round.
+    /// The conjugate, in which each direction (m, n) is (−m, −n).
     pub fn conj(&self, alloc: Global) -> Result<ExpSum, OutOfMemory>
         ensures { IfOk result (λ p. p ≡ conj self.now) }
     {

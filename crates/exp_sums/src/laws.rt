@@ -1,6 +1,6 @@
 //! What formal points mean, each law a function whose contract is the law. The program calls none of them.
 
-ghost use Rattle.exp_sums.specs.Laws.{TermsAreCanonical, ListsAddUp, CoefficientsTellPointsApart, MonomialsHaveOneTerm, SumsAddCoefficients, NegativesNegateCoefficients, ProductsConvolve, ConjugatesTurnDirections, SineFormsSubtractTurned};
+ghost use Rattle.exp_sums.specs.Laws.{TermsAreCanonical, ListsAddUp, CoefficientsTellPointsApart, MonomialsHaveOneTerm, SumsAddCoefficients, NegativesNegateCoefficients, ProductsConvolve, ConjugatesNegateDirections, SineFormsSubtractConjugates};
 
 /// The terms of a formal point rise by their directions, and none has the coefficient 0.
 pub fn terms_are_canonical()
@@ -38,12 +38,12 @@ pub fn products_convolve()
 {}
 
 /// The coefficient of a conjugate at (m, n) is that at (−m, −n).
-pub fn conjugates_turn_directions()
-    ensures { ConjugatesTurnDirections }
+pub fn conjugates_negate_directions()
+    ensures { ConjugatesNegateDirections }
 {}
 
 /// The coefficient of a sine form at (m, n) is that of the point at (m, n) less that at (−m, −n), where m > 0, or m = 0
 /// and n > 0. It is 0 at every other direction.
-pub fn sine_forms_subtract_turned()
-    ensures { SineFormsSubtractTurned }
+pub fn sine_forms_subtract_conjugates()
+    ensures { SineFormsSubtractConjugates }
 {}

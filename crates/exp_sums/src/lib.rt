@@ -7,6 +7,7 @@
 //! such maps are.
 #![tactic(auto)]
 
+mod conjugates;
 mod direction;
 mod exp_sum;
 pub mod laws;
@@ -15,7 +16,6 @@ mod sizes;
 mod terms;
 #[cfg(test)]
 mod tests;
-mod turns;
 
 pub use direction::Dir;
 pub use exp_sum::ExpSum;

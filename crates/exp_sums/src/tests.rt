@@ -77,11 +77,11 @@ fn subtracts_sums(rt: HostRuntime) -> Result<(), Fail> {
 }
 
 #[test]
-fn turns_directions(rt: HostRuntime) -> Result<(), Fail> {
+fn negates_directions(rt: HostRuntime) -> Result<(), Fail> {
     let sum = sum_of(&rt, rt.alloc(), &[(1, -1, 2), (3, 1, -1)])?;
-    let turned = sum.conj(rt.alloc())?;
+    let conjugate = sum.conj(rt.alloc())?;
     assert_eq!(rt;
-        turned.terms(),
+        conjugate.terms(),
         [term(-3, -1, -1), term(-1, 1, 2)].as_slice()
     );
     Ok(())
@@ -105,8 +105,8 @@ fn subtracts_lower_directions(rt: HostRuntime) -> Result<(), Fail> {
     let sines = sum.sine_form(rt.alloc())?;
     assert_eq!(rt; sines.terms(), [term(0, 2, 3)].as_slice());
     let lower = sum_of(&rt, rt.alloc(), &[(-2, 2, 5), (0, 0, 7)])?;
-    let turned = lower.sine_form(rt.alloc())?;
-    assert_eq!(rt; turned.terms(), [term(2, -2, -5)].as_slice());
+    let upper = lower.sine_form(rt.alloc())?;
+    assert_eq!(rt; upper.terms(), [term(2, -2, -5)].as_slice());
     Ok(())
 }
 
@@ -157,9 +157,9 @@ fn keeps_many_terms_in_order(rt: HostRuntime) -> Result<(), Fail> {
 }
 
 #[test]
-fn turns_many_directions(rt: HostRuntime) -> Result<(), Fail> {
+fn negates_many_directions(rt: HostRuntime) -> Result<(), Fail> {
     let sum = sum_of(&rt, rt.alloc(), &MANY)?;
-    let turned = sum.conj(rt.alloc())?;
+    let conjugate = sum.conj(rt.alloc())?;
     let terms = [
         term(-5, 0, 1),
         term(-4, -4, 9),
@@ -172,7 +172,7 @@ fn turns_many_directions(rt: HostRuntime) -> Result<(), Fail> {
         term(2, 3, 3),
         term(3, -8, 1),
     ];
-    assert_eq!(rt; turned.terms(), terms.as_slice());
+    assert_eq!(rt; conjugate.terms(), terms.as_slice());
     Ok(())
 }
 

@@ -23,7 +23,7 @@ use Rattle.rational_polygon.proofs.Centres.{near_centre}
 use Rattle.gradient_bounds.specs.Corridor.{EachFunction}
 use Rattle.gradient_bounds.specs.Clear.{margin, drift, central_value, IsClearFunction, IsClearAtPoint, IsClearFunctionOn, IsShutFunctionOn, IsShut}
 use Rattle.gradient_bounds.specs.Laws.{ClearGivesCorridor, ShutGivesNoCorridor, ClearWithLess}
-use Rattle.gradient_bounds.specs.Region.{Ball, threshold_of, IsClearIn}
+use Rattle.gradient_bounds.specs.Neighbourhood.{Ball, threshold_of, IsClearIn}
 use Rattle.gradient_bounds.proofs.Margins.{margin_positive}
 use Rattle.gradient_bounds.proofs.Rows.{SomeFunction, each_meets_some, each_onward}
 

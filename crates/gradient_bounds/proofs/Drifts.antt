@@ -1,4 +1,4 @@
--- Thresholds in units: the drift of a function in a region, rounded up, and its margin.
+-- Thresholds in units: the drift of a function in a neighbourhood, rounded up, and its margin.
 use Rattle.std.proofs.Common.{◌≡◌, refl, sym, ap, ◌∙◌, subst, subst₂, ℕ, ◌+◌, ◌-◌, ◌*◌, ◌^◌, ◌<◌, ◌≤◌, ℤ, pos, negsuc, ◌+ℤ◌, ◌*ℤ◌, ◌≤ℤ◌, ◌<ℤ◌, unsigned_abs, FitsSigned, to_z, of_z, true, [], ◌∷◌, arith, mul-le-mul, mul-le-mul_right}
 use Rattle.std.proofs.Math.Pow.{pow_mono}
 use Rattle.std.proofs.lemmas.Int.{ints, to_z-of_z, fits_signed_from_abs}
@@ -23,7 +23,7 @@ use Rattle.directed_fixed.proofs.Rounding.{product_size, rounded_not_larger}
 use Rattle.sine_fixed.proofs.Enclosed.{pi_size}
 use Rattle.defining_functions.specs.Functions.{IsWithinFunctionLimits}
 use Rattle.gradient_bounds.specs.Clear.{slack}
-use Rattle.gradient_bounds.specs.Region.{threshold_of}
+use Rattle.gradient_bounds.specs.Neighbourhood.{threshold_of}
 use Rattle.gradient_bounds.proofs.Margins.{slack_units}
 use Rattle.gradient_bounds.proofs.Turning.{fits_128}
 

@@ -6,3 +6,4 @@ pub mod Enclosing
 pub mod Rows
 pub mod Refusals
 pub mod Boxes
+pub mod Within

@@ -20,7 +20,7 @@ use Rattle.trig_meaning.proofs.FromSomeOnLaws.{onward_both, somewhere}
 use Rattle.directed_fixed.specs.Ends.{Ends, Encloses}
 use Rattle.gradient_bounds.specs.Angles.{value_of_terms}
 use Rattle.gradient_bounds.specs.Clear.{slack}
-use Rattle.gradient_bounds.specs.Region.{Ball, threshold_of, IsClearIn, IsShutIn}
+use Rattle.gradient_bounds.specs.Neighbourhood.{Ball, threshold_of, IsClearIn, IsShutIn}
 
 is_true : (b : Bool) → T b → IsTrue b
 is_true true t = refl

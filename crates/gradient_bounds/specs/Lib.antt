@@ -1,7 +1,8 @@
 pub mod Corridor
 pub mod Clear
+pub mod Slacks
 pub mod Angles
-pub mod Region
+pub mod Neighbourhood
 pub mod Kept
 pub mod Faults
 pub mod Laws

@@ -10,11 +10,9 @@ mod clear;
 mod fault;
 mod functions;
 pub mod laws;
+mod neighbourhood;
 mod prepared;
-mod region;
 mod sines;
-#[cfg(test)]
-mod tests;
 mod thresholds;
 
 pub use fault::PrepareFault;

@@ -7,13 +7,13 @@ ghost use Rattle.rational_polygon.specs.Point.{Point};
 ghost use Rattle.rational_polygon.specs.Square.{IsInBox};
 ghost use Rattle.gradient_bounds.specs.Corridor.{EachFunction, HasCorridor};
 ghost use Rattle.gradient_bounds.specs.Clear.{slack, IsClearAtPoint, IsClear, IsShut};
-ghost use Rattle.gradient_bounds.specs.Region.{IsRegion, ball_of, IsClearIn};
+ghost use Rattle.gradient_bounds.specs.Neighbourhood.{IsNeighbourhood, ball_of, IsClearIn};
 ghost use Rattle.gradient_bounds.specs.declared.fault.PrepareFault.TheVariants.{Unstable};
 
 use crate::clear::{are_clear, has_shut};
 use crate::fault::PrepareFault;
 use crate::functions::rows;
-use crate::region::{Region, point, square};
+use crate::neighbourhood::{Neighbourhood, point, square};
 use defining_functions::Functions;
 use directed_fixed::Scale;
 use edge_words::Word;
@@ -59,7 +59,7 @@ impl<S: Scale> Prepared<S> {
         let functions = Functions::of(alloc, &unfolding)?;
         let rows = rows(alloc, &functions)?;
         Ok(Prepared {
-            word: word.rotate(0),
+            word: word.copied(),
             rows,
             scale: PhantomData,
         })
@@ -115,23 +115,23 @@ impl<S: Scale> Prepared<S> {
         ensures found { IsShut self.old place (slack S.HIGH_BITS) → IsTrue result }
         ensures no_corridor { IsTrue result → (p : Point) → IsInBox place p → ¬ (HasCorridor self.old p.x p.y) }
     {
-        let region = square(place);
+        let neighbourhood = square(place);
         for row in &self.rows {
-            if has_shut::<S>(row.as_slice(), &region) {
+            if has_shut::<S>(row.as_slice(), &neighbourhood) {
                 return true;
             }
         }
         false
     }
 
-    /// Whether each function is seen to be clear in the region.
-    fn is_clear_in(&self, region: &Region) -> bool
-        requires { IsRegion region.now }
-        ensures clear { IsTrue result → EachFunction self.now (IsClearIn (ball_of region.now) (slack S.LOW_BITS)) }
-        ensures found { EachFunction self.now (IsClearIn (ball_of region.now) (slack S.HIGH_BITS)) → IsTrue result }
+    /// Whether each function is seen to be clear in the neighbourhood.
+    fn is_clear_in(&self, neighbourhood: &Neighbourhood) -> bool
+        requires { IsNeighbourhood neighbourhood.now }
+        ensures clear { IsTrue result → EachFunction self.now (IsClearIn (ball_of neighbourhood.now) (slack S.LOW_BITS)) }
+        ensures found { EachFunction self.now (IsClearIn (ball_of neighbourhood.now) (slack S.HIGH_BITS)) → IsTrue result }
     {
         for row in &self.rows {
-            if !are_clear::<S>(row.as_slice(), region) {
+            if !are_clear::<S>(row.as_slice(), neighbourhood) {
                 return false;
             }
         }

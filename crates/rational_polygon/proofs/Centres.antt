@@ -22,16 +22,22 @@ finer n level =
 half_step : (n m level : ℕ) → n + 1 ≡ m → dyadic n (level + 1) +ℚ dyadic 1 (level + 1) ≡ dyadic m (level + 1)
 half_step n m level is = over-add_same n 1 (2 ^ (level + 1)) (pow_pos (level + 1)) ∙ ap (λ k. dyadic k (level + 1)) is
 
+-- the middle of a stretch, from its start and to its end
+pub from_start : (i level : ℕ) → dyadic (2 * i + 1) (level + 1) ≡ dyadic (i + 0) level +ℚ dyadic 1 (level + 1)
+from_start i level =
+    sym (ap (λ t. t +ℚ dyadic 1 (level + 1)) (finer (i + 0) level) ∙ half_step (2 * (i + 0)) (2 * i + 1) level (omega arith))
+
+pub from_end : (i level : ℕ) → dyadic (i + 1) level ≡ dyadic (2 * i + 1) (level + 1) +ℚ dyadic 1 (level + 1)
+from_end i level = finer (i + 1) level ∙ sym (half_step (2 * i + 1) (2 * (i + 1)) level (omega arith))
+
 -- a point of a stretch is at most half of it from the middle
 near_middle : (i level : ℕ) (x : ℚ) → dyadic (i + 0) level ≤ℚ x → x ≤ℚ dyadic (i + 1) level → abs (dyadic (2 * i + 1) (level + 1) -ℚ x) ≤ℚ dyadic 1 (level + 1)
 near_middle i level x low high =
     let middle = dyadic (2 * i + 1) (level + 1) in
     let half = dyadic 1 (level + 1) in
-    let start : middle ≡ dyadic (i + 0) level +ℚ half = sym (ap (λ t. t +ℚ half) (finer (i + 0) level) ∙ half_step (2 * (i + 0)) (2 * i + 1) level (omega arith)) in
-    let end : dyadic (i + 1) level ≡ middle +ℚ half = finer (i + 1) level ∙ sym (half_step (2 * i + 1) (2 * (i + 1)) level (omega arith)) in
     abs_le (middle -ℚ x) half
-    (le₄ ℚ_ordered (λ a c h x. c ⊟ x) (λ a c h x. h) (λ a c h x. le a x ∷ same (num 1) c (a ⊞ h) ∷ []) refl (dyadic (i + 0) level) middle half x (low, (start, tt)))
-    (le₄ ℚ_ordered (λ b c h x. opp (c ⊟ x)) (λ b c h x. h) (λ b c h x. le x b ∷ same (num 1) b (c ⊞ h) ∷ []) refl (dyadic (i + 1) level) middle half x (high, (end, tt)))
+    (le₄ ℚ_ordered (λ a c h x. c ⊟ x) (λ a c h x. h) (λ a c h x. le a x ∷ same (num 1) c (a ⊞ h) ∷ []) refl (dyadic (i + 0) level) middle half x (low, (from_start i level, tt)))
+    (le₄ ℚ_ordered (λ b c h x. opp (c ⊟ x)) (λ b c h x. h) (λ b c h x. le x b ∷ same (num 1) b (c ⊞ h) ∷ []) refl (dyadic (i + 1) level) middle half x (high, (from_end i level, tt)))
 
 -- a point of a box differs from the centre by at most half the side in each coordinate
 pub near_centre : (box : Square) (p : Point) → IsInBox box p → (abs ((centre box).x -ℚ p.x) ≤ℚ half_side box) × (abs ((centre box).y -ℚ p.y) ≤ℚ half_side box)

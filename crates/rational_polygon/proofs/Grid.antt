@@ -10,7 +10,7 @@ use Rattle.rat_core.specs.Fraction.{ℚ, ◌÷◌, whole, ◌≤ℚ◌}
 use Rattle.rat_core.proofs.Laws.{ℚ_ring, ℚ_ordered, le_refl, le_trans, lt_le}
 use Rattle.rat_core.proofs.Order.{over_nonneg, over_positive}
 use Rattle.rat_core.proofs.Quotients.{over_at_most_one, sum_below_one}
-use Rattle.rational_polygon.specs.Point.{Point, turn, IsOnOrLeft, IsTriangle}
+use Rattle.rational_polygon.specs.Point.{Point, orientation, IsOnOrLeft, IsTriangle}
 use Rattle.rational_polygon.specs.Square.{unit_square, IsInBox}
 use Rattle.rational_polygon.specs.Outline.{Outline, grid_point, IsNumber, corner, next, IsInside, IsPolygon, IsInPolygon}
 use Rattle.rational_polygon.proofs.Numbers.{by_number, at_found}
@@ -40,11 +40,11 @@ in_unit_square outline p polygon within =
     }
 
 -- the ends of an edge lie on its line
-turn_start : (a b : Point) → turn a b a ≡ whole 0
-turn_start a b = ring₄ ℚ_ring (λ ax ay bx by. (bx ⊟ ax) ⊠ (ay ⊟ ay) ⊟ (by ⊟ ay) ⊠ (ax ⊟ ax)) (λ ax ay bx by. num 0) refl a.x a.y b.x b.y
+orientation_at_start : (a b : Point) → orientation a b a ≡ whole 0
+orientation_at_start a b = ring₄ ℚ_ring (λ ax ay bx by. (bx ⊟ ax) ⊠ (ay ⊟ ay) ⊟ (by ⊟ ay) ⊠ (ax ⊟ ax)) (λ ax ay bx by. num 0) refl a.x a.y b.x b.y
 
-turn_end : (a b : Point) → turn a b b ≡ whole 0
-turn_end a b = ring₄ ℚ_ring (λ ax ay bx by. (bx ⊟ ax) ⊠ (by ⊟ ay) ⊟ (by ⊟ ay) ⊠ (bx ⊟ ax)) (λ ax ay bx by. num 0) refl a.x a.y b.x b.y
+orientation_at_end : (a b : Point) → orientation a b b ≡ whole 0
+orientation_at_end a b = ring₄ ℚ_ring (λ ax ay bx by. (bx ⊟ ax) ⊠ (by ⊟ ay) ⊟ (by ⊟ ay) ⊠ (bx ⊟ ax)) (λ ax ay bx by. num 0) refl a.x a.y b.x b.y
 
 -- what is 0 is at least 0
 on_line : (x : ℚ) → x ≡ whole 0 → whole 0 ≤ℚ x
@@ -59,9 +59,9 @@ corner_on_or_left : (outline : Outline) (i j : ℕ) → IsPolygon outline → Is
 corner_on_or_left outline i j polygon edge number =
     let a = corner outline i in
     let b = corner outline (next outline i) in
-    by_equality j i (λ e. subst (λ t. IsOnOrLeft a b (corner outline t)) (sym e) (on_line (turn a b a) (turn_start a b)))
-    (λ start. by_equality j (next outline i) (λ e. subst (λ t. IsOnOrLeft a b (corner outline t)) (sym e) (on_line (turn a b b) (turn_end a b)))
-    (λ end. lt_le (whole 0) (turn a b (corner outline j)) (polygon.convex i j edge number start end)))
+    by_equality j i (λ e. subst (λ t. IsOnOrLeft a b (corner outline t)) (sym e) (on_line (orientation a b a) (orientation_at_start a b)))
+    (λ start. by_equality j (next outline i) (λ e. subst (λ t. IsOnOrLeft a b (corner outline t)) (sym e) (on_line (orientation a b b) (orientation_at_end a b)))
+    (λ end. lt_le (whole 0) (orientation a b (corner outline j)) (polygon.convex i j edge number start end)))
 
 -- each corner is a triangle and a point of the polygon
 pub corner_is_point : (outline : Outline) (k : ℕ) → IsPolygon outline → IsNumber outline k → IsTriangle (corner outline k) × IsInPolygon outline (corner outline k)

@@ -12,16 +12,16 @@ use Rattle.rat_core.specs.Written.{order_of}
 use Rattle.rat_core.proofs.Laws.{over_same, over-product, lt_le, le_or_lt}
 use Rattle.rat_core.proofs.Compare.{order_of_written}
 use Rattle.rat_core.proofs.Quotients.{over-sub, over-sub_same}
-use Rattle.rational_polygon.specs.Point.{turn}
+use Rattle.rational_polygon.specs.Point.{orientation}
 use Rattle.rational_polygon.specs.Outline.{grid_point}
 
 -- what decides: the product of the run of the edge and the rise of the point, and of the rise of the edge and the run of the point
 abbrev pub product_at : ℕ → ℕ → ℕ → ℕ → ℤ → ℕ → ℕ → ℤ
 product_at grid from to at n d e = (pos to -ℤ pos from) *ℤ (pos grid *ℤ n -ℤ pos at *ℤ pos d) *ℤ pos e
 
--- the turn, over one denominator
-turn_is : (grid : ℕ) (a b : ℕ × ℕ) (n m : ℤ) (d e : ℕ) → 0 < grid → 0 < d → 0 < e → turn (grid_point grid a) (grid_point grid b) (record { x = n ÷ d; y = m ÷ e }) ≡ (product_at grid a.0 b.0 a.1 m e d -ℤ product_at grid a.1 b.1 a.0 n d e) ÷ (grid * grid * (d * e))
-turn_is grid a b n m d e p q r =
+-- the orientation, over one denominator
+orientation_is : (grid : ℕ) (a b : ℕ × ℕ) (n m : ℤ) (d e : ℕ) → 0 < grid → 0 < d → 0 < e → orientation (grid_point grid a) (grid_point grid b) (record { x = n ÷ d; y = m ÷ e }) ≡ (product_at grid a.0 b.0 a.1 m e d -ℤ product_at grid a.1 b.1 a.0 n d e) ÷ (grid * grid * (d * e))
+orientation_is grid a b n m d e p q r =
     let run = pos b.0 -ℤ pos a.0 in
     let rise = pos b.1 -ℤ pos a.1 in
     let up = m *ℤ pos grid -ℤ pos a.1 *ℤ pos e in
@@ -53,15 +53,15 @@ int_cmp_over_one l r k = int_cmp_sub l r ∙ sym (ap₂ int_cmp (*ℤ-pos_one (l
 positive : (n : ℕ) → 0 < n → pos 0 <ℤ pos n
 positive n p = record { lt = lt→ltb 0 n p }
 
--- the order of the two products is that of the turn and 0
-pub int_cmp-products : (grid : ℕ) (a b : ℕ × ℕ) (n m : ℤ) (d e : ℕ) → 0 < grid → 0 < d → 0 < e → int_cmp (product_at grid a.0 b.0 a.1 m e d) (product_at grid a.1 b.1 a.0 n d e) ≡ order_of (turn (grid_point grid a) (grid_point grid b) (record { x = n ÷ d; y = m ÷ e })) (whole 0)
+-- the order of the two products is that of the orientation and 0
+pub int_cmp-products : (grid : ℕ) (a b : ℕ × ℕ) (n m : ℤ) (d e : ℕ) → 0 < grid → 0 < d → 0 < e → int_cmp (product_at grid a.0 b.0 a.1 m e d) (product_at grid a.1 b.1 a.0 n d e) ≡ order_of (orientation (grid_point grid a) (grid_point grid b) (record { x = n ÷ d; y = m ÷ e })) (whole 0)
 int_cmp-products grid a b n m d e p q r =
     let l = product_at grid a.0 b.0 a.1 m e d in
     let s = product_at grid a.1 b.1 a.0 n d e in
     let k = grid * grid * (d * e) in
     int_cmp_over_one l s k
     ∙ order_of_written (l -ℤ s) (pos 0) (pos k) (pos 1) (positive k (mul-pos (mul-pos p p) (mul-pos q r))) (positive 1 (omega arith))
-    ∙ ap (λ t. order_of t (whole 0)) (sym (turn_is grid a b n m d e p q r))
+    ∙ ap (λ t. order_of t (whole 0)) (sym (orientation_is grid a b n m d e p q r))
 
 -- the tests of an order
 is_lt_by : (s t : Bool) → (T (not s) → T t) → IsTrue (is_lt (cond s (cond t Equal Less) Greater)) ↔ T (not t)

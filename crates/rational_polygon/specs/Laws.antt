@@ -3,12 +3,16 @@
 use Rattle.std.specs.Prelude.{ℕ, ◌<◌}
 use Rattle.rational_polygon.specs.Point.{Point, IsTriangle}
 use Rattle.rational_polygon.specs.Square.{Square, unit_square, child, IsInBox}
-use Rattle.rational_polygon.specs.Outline.{Outline, IsNumber, corner, IsPolygon, IsInPolygon}
+use Rattle.rational_polygon.specs.Outline.{Outline, IsNumber, corner, IsPolygon, IsInRectangle, IsOnOrLeftOfEdges, IsInPolygon}
 use Rattle.rational_polygon.specs.Apart.{IsApart}
 
 -- every point of a polygon lies in the unit square
 abbrev pub PolygonLiesInUnitSquare : Type 0
 PolygonLiesInUnitSquare = (outline : Outline) (p : Point) → IsPolygon outline → IsInPolygon outline p → IsInBox unit_square p
+
+-- what is on or left of every edge of a polygon lies in the bounding rectangle, so the edges alone make the polygon
+abbrev pub EdgesImplyRectangle : Type 0
+EdgesImplyRectangle = (outline : Outline) (p : Point) → IsPolygon outline → IsOnOrLeftOfEdges outline p → IsInRectangle outline p
 
 -- a box that is apart from a polygon has no point of it
 abbrev pub ApartHoldsNone : Type 0

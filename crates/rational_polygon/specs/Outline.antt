@@ -3,6 +3,7 @@
 
 use Rattle.std.specs.Prelude.{◌≢◌, ℕ, ◌+◌, ◌-◌, ◌%◌, ◌<◌, ◌≤◌, pos, List, length, slice_index_or, All, Any}
 use Rattle.rat_core.specs.Fraction.{◌÷◌, ◌≤ℚ◌}
+use Rattle.rational_polygon.specs.declared.TheConstants.{MAX_GRID, MIN_CORNERS, MAX_CORNERS}
 use Rattle.rational_polygon.specs.Point.{Point, IsStrictlyLeft, IsOnOrLeft}
 
 -- the corners in grid steps, one after another
@@ -35,10 +36,10 @@ abbrev pub IsStrictlyConvex : Outline → Type 0
 IsStrictlyConvex outline = (i j : ℕ) → IsNumber outline i → IsNumber outline j → IsConvexAt outline i j
 
 abbrev pub IsGrid : ℕ → Type 0
-IsGrid grid = (1 ≤ grid) × (grid ≤ 1048576)
+IsGrid grid = (1 ≤ grid) × (grid ≤ MAX_GRID)
 
 abbrev pub IsCount : ℕ → Type 0
-IsCount count = (3 ≤ count) × (count ≤ 16)
+IsCount count = (MIN_CORNERS ≤ count) × (count ≤ MAX_CORNERS)
 
 -- strictly inside the triangle of the corners (0, 0), (grid, 0) and (0, grid)
 pub record IsInside (grid : ℕ) (c : ℕ × ℕ) : Type 0 where
@@ -59,7 +60,11 @@ pub record IsInRectangle (outline : Outline) (p : Point) : Type 0 where
   pub below : Any (λ c. (grid_point outline.grid c).y ≤ℚ p.y) outline.corners
   pub above : Any (λ c. p.y ≤ℚ (grid_point outline.grid c).y) outline.corners
 
+-- on or left of every edge
+abbrev pub IsOnOrLeftOfEdges : Outline → Point → Type 0
+IsOnOrLeftOfEdges outline p = (k : ℕ) → IsNumber outline k → IsOnOrLeft (corner outline k) (corner outline (next outline k)) p
+
 -- a point of the polygon
 pub record IsInPolygon (outline : Outline) (p : Point) : Type 0 where
   pub rectangle : IsInRectangle outline p
-  pub edges : (k : ℕ) → IsNumber outline k → IsOnOrLeft (corner outline k) (corner outline (next outline k)) p
+  pub edges : IsOnOrLeftOfEdges outline p

@@ -3,6 +3,7 @@
 
 use Rattle.std.specs.Prelude.{ℕ, ◌+◌, ◌*◌, ◌/◌, ◌%◌, ◌^◌, ◌<◌, ◌≤◌, pos}
 use Rattle.rat_core.specs.Fraction.{ℚ, ◌÷◌, ◌≤ℚ◌}
+use Rattle.rational_polygon.specs.declared.TheConstants.{MAX_LEVEL}
 use Rattle.rational_polygon.specs.Point.{Point}
 
 -- The closed square with the lower left corner (i, j) / 2^level and the side 1 / 2^level.
@@ -11,9 +12,9 @@ pub record Square : Type 0 where
   pub j : ℕ
   pub level : ℕ
 
--- a square of the tree: its level is at most 20, and it lies in the unit square
+-- a square of the tree: its level is at most MAX_LEVEL, and it lies in the unit square
 pub record IsBox (box : Square) : Type 0 where
-  pub depth : box.level ≤ 20
+  pub depth : box.level ≤ MAX_LEVEL
   pub column : box.i < 2 ^ box.level
   pub row : box.j < 2 ^ box.level
 

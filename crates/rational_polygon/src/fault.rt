@@ -1,13 +1,14 @@
+use crate::{MAX_CORNERS, MAX_GRID, MIN_CORNERS};
 use thiserror::Error;
 
 /// Why a grid and corners make no polygon. Corners and edges are counted from 1; edge `i` goes from corner `i` to the next one.
 #[derive(Clone, Copy, Debug, PartialEq, Eq, Error)]
 pub enum PolygonFault {
-    /// The grid is not from 1 to 1,048,576.
-    #[error("the grid is not from 1 to 1,048,576")]
+    /// The grid is not from 1 to `MAX_GRID`.
+    #[error("the grid is not from 1 to {MAX_GRID}")]
     Grid,
-    /// There are fewer than 3 corners, or more than 16.
-    #[error("there are not 3 to 16 corners")]
+    /// There are fewer than `MIN_CORNERS` corners, or more than `MAX_CORNERS`.
+    #[error("there are not {MIN_CORNERS} to {MAX_CORNERS} corners")]
     Count,
     /// The first corner (X, Y) with X = 0, Y = 0 or X + Y at least the grid.
     #[error("corner {i} is not strictly inside the triangle of the grid")]

@@ -6,19 +6,17 @@ ghost use Rattle.rational_polygon.specs.Fault.{IsFaultOf, IsFirstOutside, IsFirs
 use crate::edge::{corner_at, side_of_edge};
 use crate::fault::PolygonFault;
 use crate::rectangle::on_grid;
-
-// The finest grid.
-const GREATEST_GRID: u32 = 1_048_576;
+use crate::{MAX_CORNERS, MAX_GRID, MIN_CORNERS};
 
 /// The first condition of a polygon that fails, if one does.
 pub(crate) fn first_fault(grid: u32, corners: &[(u32, u32)]) -> Option<PolygonFault>
     ensures { let outline : Outline = record { grid = grid; corners = corners.now } in
         MatchOption result (IsPolygon outline) (IsFaultOf outline) }
 {
-    if !(1..=GREATEST_GRID).contains(&grid) {
+    if !(1..=MAX_GRID).contains(&grid) {
         return Some(PolygonFault::Grid);
     }
-    if !(3..=16).contains(&corners.len()) {
+    if !(MIN_CORNERS..=MAX_CORNERS).contains(&corners.len()) {
         return Some(PolygonFault::Count);
     }
     if let Some(i) = first_outside(grid, corners) {
@@ -37,7 +35,7 @@ fn is_inside(grid: u32, corner: (u32, u32)) -> bool
 
 // The number of the first corner that does not lie inside.
 fn first_outside(grid: u32, corners: &[(u32, u32)]) -> Option<u32>
-    requires { length corners.now ≤ 16 }
+    requires { length corners.now ≤ MAX_CORNERS }
     ensures { let outline : Outline = record { grid = grid; corners = corners.now } in
         MatchOption result (All (IsInside grid) corners.now) (IsFirstOutside outline) }
 {

@@ -5,13 +5,14 @@ ghost use Rattle.rational_polygon.specs.Square.{child, box_corner, centre, IsBox
 ghost use Rattle.rational_polygon.specs.Outline.{IsNumber, corner, next};
 ghost use Rattle.rational_polygon.specs.Apart.{IsBeyond, IsRightOf, IsApart};
 
+use crate::MAX_LEVEL;
 use crate::edge::side_of_edge;
 use crate::polygon::Polygon;
 use crate::rectangle::{is_beyond_across, is_beyond_up};
 use rat_core::Frac;
 use std::marker::Model;
 
-/// The closed square with the lower left corner `(i, j) / 2^level` and the side `1 / 2^level`. The level is at most 20,
+/// The closed square with the lower left corner `(i, j) / 2^level` and the side `1 / 2^level`. The level is at most `MAX_LEVEL`,
 /// and `i` and `j` are below `2^level`, so that it lies in the unit square.
 #[derive(Clone, Copy, Debug, PartialEq, Eq, Default)]
 pub struct GridBox {
@@ -36,7 +37,7 @@ impl GridBox {
     /// The child of number `c`: lower left, lower right, upper left, upper right.
     pub fn child(self, c: u8) -> GridBox
         requires number { c < 4 }
-        requires level { self.level < 20 }
+        requires level { self.level < MAX_LEVEL }
         ensures value { result ≡ child self c }
         ensures is_box { IsBox result }
     {
@@ -72,7 +73,7 @@ impl GridBox {
         requires b { b ≤ 1 }
         ensures x { result.0 ≡ record { num = pos (self.i + a); den = 2 ^ self.level } }
         ensures y { result.1 ≡ record { num = pos (self.j + b); den = 2 ^ self.level } }
-        ensures small { 2 ^ self.level ≤ 2 ^ 20 }
+        ensures small { 2 ^ self.level ≤ 2 ^ MAX_LEVEL }
     {
         (
             dyadic(self.i + a, self.level),
@@ -126,7 +127,7 @@ impl GridBox {
 
 // The fraction `n / 2^level`.
 fn dyadic(n: u32, level: u32) -> Frac
-    requires { level ≤ 21 }
+    requires { level ≤ MAX_LEVEL + 1 }
     ensures { result ≡ record { num = pos n; den = 2 ^ level } }
 {
     Frac::new(i128::from(n), i128::from(1u32 << level))

@@ -1,9 +1,14 @@
 //! What follows from the definitions alone: each function's contract is a law.
-ghost use Rattle.rational_polygon.specs.Laws.{PolygonLiesInUnitSquare, ApartHoldsNone, ChildrenCover, ChildrenLieWithin, CornersAreTriangles, PointsAreTriangles};
+ghost use Rattle.rational_polygon.specs.Laws.{PolygonLiesInUnitSquare, EdgesImplyRectangle, ApartHoldsNone, ChildrenCover, ChildrenLieWithin, CornersAreTriangles, PointsAreTriangles};
 
 /// Every point of a polygon lies in the unit square.
 pub fn polygon_lies_in_unit_square()
     ensures { PolygonLiesInUnitSquare }
+{}
+
+/// What is on or left of every edge of a polygon lies in its bounding rectangle.
+pub fn edges_imply_rectangle()
+    ensures { EdgesImplyRectangle }
 {}
 
 /// A box that is apart from a polygon has no point of it.

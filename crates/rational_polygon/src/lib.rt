@@ -16,3 +16,15 @@ mod tests;
 pub use fault::PolygonFault;
 pub use grid_box::GridBox;
 pub use polygon::Polygon;
+
+/// The finest grid: the most steps that make 1.
+pub const MAX_GRID: u32 = 1_048_576;
+
+/// The deepest level of a box.
+pub const MAX_LEVEL: u32 = 20;
+
+/// The fewest corners of a polygon.
+pub const MIN_CORNERS: usize = 3;
+
+/// The most corners of a polygon.
+pub const MAX_CORNERS: usize = 16;

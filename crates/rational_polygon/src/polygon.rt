@@ -11,7 +11,7 @@ use crate::rectangle::is_in_rectangle;
 use rat_core::Frac;
 use std::marker::Model;
 
-/// A strictly convex polygon with 3 to 16 corners, which run counterclockwise. The corner `(X, Y)` is the point
+/// A strictly convex polygon with `MIN_CORNERS` to `MAX_CORNERS` corners, which run counterclockwise. The corner `(X, Y)` is the point
 /// `(X / grid, Y / grid)`, and lies strictly inside the triangle `x > 0`, `y > 0`, `x + y < 1`.
 #[derive(Debug, Drop)]
 pub struct Polygon {

@@ -1,5 +1,6 @@
 -- How heavy centres and corners are, and how far their directions reach.
-use Rattle.std.proofs.Common.{◌≡◌, ◌≢◌, ℕ, zero, suc, ◌+◌, ◌*◌, ◌-◌, ◌%◌, ◌<◌, ◌≤◌, ◌==◌, Bool, true, false, List, [], ◌∷◌, length, take, get_or, pos, negsuc, if◌then◌else◌, refl, sym, ap, ap₂, subst, ◌∙◌, arith, length-take, add-zero, zero-add, inl, inr}
+use Rattle.std.proofs.Common.{◌≡◌, ◌≢◌, ℕ, zero, suc, ◌+◌, ◌*◌, ◌-◌, ◌%◌, ◌<◌, ◌≤◌, ◌==◌, Bool, true, false, List, [], ◌∷◌, length, take, get_or, pos}
+use Rattle.std.proofs.Common.{negsuc, if◌then◌else◌, refl, sym, ap, ap₂, subst, ◌∙◌, arith, length-take, add-zero, zero-add, inl, inr}
 use Rattle.std.proofs.Math.Seq.{take-suc}
 use Rattle.std.proofs.lemmas.Bool.{cases_lt}
 use Rattle.std.proofs.lemmas.Bool.Decides.{nat_tests}
@@ -21,8 +22,8 @@ use Rattle.exp_sums.proofs.Within.{IsWithin-monomial, IsWithin-zero_point, IsWit
 use Rattle.unfolding.specs.Triangle.{next_corner, corner_dir, mirrors, corner_of, centre_of}
 use Rattle.unfolding.specs.Signed.{sign_of, signed_point}
 use Rattle.unfolding.specs.declared.signed.Signed.{Signed}
-use Rattle.unfolding.specs.Walk.{turned, seen_of}
-use Rattle.unfolding.proofs.Turned.{turned-near-m, turned-near-n}
+use Rattle.unfolding.specs.Walk.{mirrored_dir, seen_of}
+use Rattle.unfolding.proofs.MirroredDirs.{mirrored_dir-near-m, mirrored_dir-near-n}
 use Rattle.unfolding.proofs.Seen.{corner_is_seen, centre-snoc}
 
 -- ---- how far directions reach
@@ -58,13 +59,14 @@ entries_of_word w k h below i inside same =
 corner_dir_near : (c : ℕ) → IsNear 1 (corner_dir c)
 corner_dir_near c = by_tests (c == 1) (c == 2)
   where
-    by_tests : (a b : Bool) → IsNear 1 (if a then record { m = pos 1; n = pos 1 } else if b then record { m = negsuc 0; n = negsuc 0 } else record { m = pos 1; n = negsuc 0 })
+    by_tests : (a b : Bool) → IsNear 1 (if a then record { m = pos 1; n = pos 1 } else if b then record { m = negsuc 0; n = negsuc 0 } else record
+        { m = pos 1; n = negsuc 0 })
     by_tests true b = record { m = omega arith; n = omega arith }
     by_tests false true = record { m = omega arith; n = omega arith }
     by_tests false false = record { m = omega arith; n = omega arith }
 
 -- a corner as it is seen from the centre
-pub seen_near : (w : List ℕ) (k c : ℕ) → IsWord w → k ≤ length w → IsNear 65 (turned (take k w) (corner_dir c))
+pub seen_near : (w : List ℕ) (k c : ℕ) → IsWord w → k ≤ length w → IsNear 65 (mirrored_dir (take k w) (corner_dir c))
 seen_near w k c word below =
     let v = take k w in
     let letters = All-take IsLetter k w word.letters in
@@ -72,14 +74,15 @@ seen_near w k c word below =
     let short : length v ≤ 64 = omega (arith, length-take k w, word.even_length.at_most) in
     let near = corner_dir_near c in
     record {
-      m = omega (arith, near.m, short, sparse 2 v entries, turned-near-m v (corner_dir c) letters);
-      n = omega (arith, near.n, short, sparse 1 v entries, turned-near-n v (corner_dir c) letters);
+      m = omega (arith, near.m, short, sparse 2 v entries, mirrored_dir-near-m v (corner_dir c) letters);
+      n = omega (arith, near.n, short, sparse 1 v entries, mirrored_dir-near-n v (corner_dir c) letters);
     }
 
 -- ---- centres and corners
 -- the next centre
 pub centre-next : (w : List ℕ) (k : ℕ) → k < length w →
-    centre_of w (suc k) ≡ centre_of w k +ₚ signed_point (seen_of (take k w) (next_corner (get_or w k 0))) +ₚ signed_point (seen_of (take k w) (next_corner (next_corner (get_or w k 0))))
+    centre_of w (suc k) ≡ centre_of w k +ₚ signed_point (seen_of (take k w) (next_corner (get_or w k 0))) +ₚ signed_point
+    (seen_of (take k w) (next_corner (next_corner (get_or w k 0))))
 centre-next w k h = ap (λ v. mirrors v zero_point) (take-suc w k 0 h) ∙ centre-snoc (take k w) (get_or w k 0)
 
 -- a signed direction weighs 1
@@ -109,7 +112,15 @@ weight-moved w i (suc j) h =
     let sum = weight-+ₚ ((centre_of w k -ₚ centre_of w i) +ₚ s) s' in
     let sum' = weight-+ₚ (centre_of w k -ₚ centre_of w i) s in
     let rest = weight-moved w i j (omega (arith, h)) in
-    rw moved (omega (arith, sum, sum', rest, weight-signed_point (seen_of (take k w) (next_corner d)), weight-signed_point (seen_of (take k w) (next_corner (next_corner d)))))
+    rw moved (omega (
+      arith,
+      sum,
+      sum',
+      rest,
+      weight-signed_point (seen_of (take k w) (next_corner d)),
+      weight-signed_point
+          (seen_of (take k w) (next_corner (next_corner d))),
+    ))
 
 -- so two centres are no further apart than the crossings between them
 weight-apart : (w : List ℕ) (i j : ℕ) → i ≤ length w → j ≤ length w → weight (centre_of w i -ₚ centre_of w j) ≤ 2 * (i - j) + 2 * (j - i)
@@ -118,18 +129,21 @@ weight-apart w i j h k =
       | inl below ↦
           let i_is : i ≡ j + (i - j) = omega (arith, below) in
           let moved = weight-moved w j (i - j) (omega (arith, h, below)) in
-          let there : weight (centre_of w i -ₚ centre_of w j) ≤ 2 * (i - j) = subst (λ n. weight (centre_of w n -ₚ centre_of w j) ≤ 2 * (i - j)) (sym i_is) moved in
+          let there : weight (centre_of w i -ₚ centre_of w j) ≤ 2 * (i - j) = subst (λ n. weight (centre_of w n -ₚ centre_of w j) ≤ 2 * (i - j))
+          (sym i_is) moved in
           omega (arith, there)
       | inr below ↦
           let j_is : j ≡ i + (j - i) = omega (arith, below) in
           let moved = weight-moved w i (j - i) (omega (arith, k, below)) in
-          let back : weight (centre_of w j -ₚ centre_of w i) ≤ 2 * (j - i) = subst (λ n. weight (centre_of w n -ₚ centre_of w i) ≤ 2 * (j - i)) (sym j_is) moved in
-          let turn : centre_of w i -ₚ centre_of w j ≡ negative (centre_of w j -ₚ centre_of w i) =
+          let back : weight (centre_of w j -ₚ centre_of w i) ≤ 2 * (j - i) = subst (λ n. weight (centre_of w n -ₚ centre_of w i) ≤ 2 * (j - i))
+          (sym j_is) moved in
+          let swapped : centre_of w i -ₚ centre_of w j ≡ negative (centre_of w j -ₚ centre_of w i) =
           ring point_ring (centre_of w i ∷ centre_of w j ∷ []) (var 0 ⊟ var 1) (opp (var 1 ⊟ var 0)) refl in
-          rw turn (omega (arith, back, weight-negative (centre_of w j -ₚ centre_of w i)))
+          rw swapped (omega (arith, back, weight-negative (centre_of w j -ₚ centre_of w i)))
     ]
 
-pub weight-corners_apart : (w : List ℕ) (i j c e : ℕ) → i ≤ length w → j ≤ length w → weight (corner_of w i c -ₚ corner_of w j e) ≤ 2 * (i - j) + 2 * (j - i) + 2
+pub weight-corners_apart : (w : List ℕ) (i j c e : ℕ) → i ≤ length w → j ≤ length w
+    → weight (corner_of w i c -ₚ corner_of w j e) ≤ 2 * (i - j) + 2 * (j - i) + 2
 weight-corners_apart w i j c e h k =
     let s = signed_point (seen_of (take i w) c) in
     let s' = signed_point (seen_of (take j w) e) in
@@ -159,7 +173,7 @@ weight-corner w k c h =
 
 -- the directions of centres and corners
 within-signed : (w : List ℕ) (k c : ℕ) → IsWord w → k ≤ length w → IsWithin 65 (signed_point (seen_of (take k w) c))
-within-signed w k c word h = IsWithin-monomial 65 _ (turned (take k w) (corner_dir c)) (seen_near w k c word h)
+within-signed w k c word h = IsWithin-monomial 65 _ (mirrored_dir (take k w) (corner_dir c)) (seen_near w k c word h)
 
 pub within-centre : (w : List ℕ) (k : ℕ) → IsWord w → k ≤ length w → IsWithin 65 (centre_of w k)
 within-centre w zero word h = IsWithin-zero_point 65

@@ -6,9 +6,9 @@ use Rattle.std.specs.List.{All}
 use Rattle.exp_sums.specs.declared.direction.Dir.{Dir}
 use Rattle.exp_sums.specs.Limits.{IsNear}
 use Rattle.unfolding.specs.Triangle.{next_corner, corner_dir}
-use Rattle.unfolding.specs.Walk.{turned}
+use Rattle.unfolding.specs.Walk.{mirrored_dir}
 use Rattle.unfolding.specs.Kept.{dirs_of}
-use Rattle.unfolding.proofs.Turned.{same_dir, turned-snoc-m, turned-snoc-n}
+use Rattle.unfolding.proofs.MirroredDirs.{same_dir, mirrored_dir-snoc-m, mirrored_dir-snoc-n}
 
 -- x is where the mirror in the edge from p to q takes r
 pub record IsImage (p q r x : Dir) : Type 0 where
@@ -16,9 +16,10 @@ pub record IsImage (p q r x : Dir) : Type 0 where
   pub n : x.n ≡ p.n +ℤ q.n -ℤ r.n
 
 -- the image of a direction in edge d is the direction after one more letter d
-image_is : (w : List ℕ) (d : ℕ) (e x : Dir) → IsImage (turned w (corner_dir (next_corner d))) (turned w (corner_dir (next_corner (next_corner d)))) (turned w e) x → x ≡ turned (w ++ d ∷ []) e
+image_is : (w : List ℕ) (d : ℕ) (e x : Dir) → IsImage (mirrored_dir w (corner_dir (next_corner d))) (mirrored_dir w
+    (corner_dir (next_corner (next_corner d)))) (mirrored_dir w e) x → x ≡ mirrored_dir (w ++ d ∷ []) e
 image_is w d e x h =
-    same_dir x (turned (w ++ d ∷ []) e) (omega (arith, ints, h.m, turned-snoc-m w d e)) (omega (arith, ints, h.n, turned-snoc-n w d e))
+    same_dir x (mirrored_dir (w ++ d ∷ []) e) (omega (arith, ints, h.m, mirrored_dir-snoc-m w d e)) (omega (arith, ints, h.n, mirrored_dir-snoc-n w d e))
 
 -- the ends of the edge change places
 image_of_start : (p q : Dir) → IsImage p q p q
@@ -38,7 +39,8 @@ at_index ds i z = slice_index_or ds i z
 pub crossed_1 : (w : List ℕ) (ds : List Dir) (x z : Dir) → ds ≡ dirs_of w → IsImage (at_index ds 1 z) (at_index ds 2 z) (at_index ds 0 z) x →
     x ∷ at_index ds 2 z ∷ at_index ds 1 z ∷ [] ≡ dirs_of (w ++ 1 ∷ [])
 crossed_1 w ds x z same =
-    subst (λ (es : List Dir). IsImage (at_index es 1 z) (at_index es 2 z) (at_index es 0 z) x → x ∷ at_index es 2 z ∷ at_index es 1 z ∷ [] ≡ dirs_of (w ++ 1 ∷ []))
+    subst (λ (es : List Dir). IsImage (at_index es 1 z) (at_index es 2 z) (at_index es 0 z) x
+    → x ∷ at_index es 2 z ∷ at_index es 1 z ∷ [] ≡ dirs_of (w ++ 1 ∷ []))
     (sym same)
     (λ h. three _ _ _ _ _ _
     (image_is w 1 (corner_dir 1) x h)
@@ -48,7 +50,8 @@ crossed_1 w ds x z same =
 pub crossed_2 : (w : List ℕ) (ds : List Dir) (x z : Dir) → ds ≡ dirs_of w → IsImage (at_index ds 2 z) (at_index ds 0 z) (at_index ds 1 z) x →
     at_index ds 2 z ∷ x ∷ at_index ds 0 z ∷ [] ≡ dirs_of (w ++ 2 ∷ [])
 crossed_2 w ds x z same =
-    subst (λ (es : List Dir). IsImage (at_index es 2 z) (at_index es 0 z) (at_index es 1 z) x → at_index es 2 z ∷ x ∷ at_index es 0 z ∷ [] ≡ dirs_of (w ++ 2 ∷ []))
+    subst (λ (es : List Dir). IsImage (at_index es 2 z) (at_index es 0 z) (at_index es 1 z) x
+    → at_index es 2 z ∷ x ∷ at_index es 0 z ∷ [] ≡ dirs_of (w ++ 2 ∷ []))
     (sym same)
     (λ h. three _ _ _ _ _ _
     (image_is w 2 (corner_dir 1) _ (image_of_end _ _))
@@ -58,7 +61,8 @@ crossed_2 w ds x z same =
 pub crossed_3 : (w : List ℕ) (ds : List Dir) (x z : Dir) → ds ≡ dirs_of w → IsImage (at_index ds 0 z) (at_index ds 1 z) (at_index ds 2 z) x →
     at_index ds 1 z ∷ at_index ds 0 z ∷ x ∷ [] ≡ dirs_of (w ++ 3 ∷ [])
 crossed_3 w ds x z same =
-    subst (λ (es : List Dir). IsImage (at_index es 0 z) (at_index es 1 z) (at_index es 2 z) x → at_index es 1 z ∷ at_index es 0 z ∷ x ∷ [] ≡ dirs_of (w ++ 3 ∷ []))
+    subst (λ (es : List Dir). IsImage (at_index es 0 z) (at_index es 1 z) (at_index es 2 z) x
+    → at_index es 1 z ∷ at_index es 0 z ∷ x ∷ [] ≡ dirs_of (w ++ 3 ∷ []))
     (sym same)
     (λ h. three _ _ _ _ _ _
     (image_is w 3 (corner_dir 1) _ (image_of_start _ _))

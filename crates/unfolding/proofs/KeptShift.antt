@@ -7,7 +7,7 @@ use Rattle.unfolding.specs.declared.triangle.Triangle.{Triangle}
 use Rattle.unfolding.specs.Triangle.{corner_dir}
 use Rattle.unfolding.specs.Shift.{IsShift}
 use Rattle.unfolding.specs.Kept.{dirs_of, triangle_of, IsUnfolding}
-use Rattle.unfolding.proofs.Turned.{is_turned_over-even, turned_from_stable, stable_from_turned}
+use Rattle.unfolding.proofs.MirroredDirs.{is_reversed-even, mirrored_from_stable, stable_from_mirrored}
 use Rattle.unfolding.proofs.Shifts.{shift_from_stable}
 use Rattle.unfolding.proofs.Crossing.{three}
 use Rattle.unfolding.proofs.KeptTriangles.{kept_triangle}
@@ -23,8 +23,8 @@ last_is w t is = is ∙ ap triangle_of (take_all (length w) w (omega arith))
 pub alike_from_stable : (w : List ℕ) (t u : Triangle) → IsWord w → t ≡ triangle_of (take (length w) w) → u ≡ triangle_of (take 0 w) → IsStable w → IsAlike t u
 alike_from_stable w t u word is first stable =
     let last = last_is w t is in
-    let back : (c : ℕ) → _ = λ c. turned_from_stable w (corner_dir c) word.letters word.even_length.even stable in (
-      ap (λ t. t.minus) last ∙ is_turned_over-even w word.even_length.even ∙ sym (ap (λ t. t.minus) first),
+    let back : (c : ℕ) → _ = λ c. mirrored_from_stable w (corner_dir c) word.letters word.even_length.even stable in (
+      ap (λ t. t.minus) last ∙ is_reversed-even w word.even_length.even ∙ sym (ap (λ t. t.minus) first),
       ap (λ t. t.dirs) last ∙ three _ _ _ _ _ _ (back 1) (back 2) (back 3) ∙ sym (ap (λ t. t.dirs) first),
     )
 
@@ -32,11 +32,12 @@ alike_from_stable w t u word is first stable =
 pub stable_from_alike : (w : List ℕ) (t u : Triangle) → IsWord w → t ≡ triangle_of (take (length w) w) → u ≡ triangle_of (take 0 w) → IsAlike t u → IsStable w
 stable_from_alike w t u word is first alike =
     let dirs : dirs_of w ≡ dirs_of [] = sym (ap (λ t. t.dirs) (last_is w t is)) ∙ alike.1 ∙ ap (λ t. t.dirs) first in
-    stable_from_turned w (corner_dir 1) word.letters word.even_length.even (ap (λ ds. slice_index_or ds 0 (corner_dir 1)) dirs)
+    stable_from_mirrored w (corner_dir 1) word.letters word.even_length.even (ap (λ ds. slice_index_or ds 0 (corner_dir 1)) dirs)
 
 -- the last centre is then the shift
 pub centre_is_shift : (w : List ℕ) (t : Triangle) → IsWord w → t ≡ triangle_of (take (length w) w) → IsStable w → IsShift w t.centre
-centre_is_shift w t word is stable = subst (IsShift w) (sym (ap (λ t. t.centre) (last_is w t is))) (shift_from_stable w word.letters word.even_length.even stable)
+centre_is_shift w t word is stable = subst (IsShift w) (sym (ap (λ t. t.centre) (last_is w t is)))
+    (shift_from_stable w word.letters word.even_length.even stable)
 
 -- what the last and the first triangle of what is kept tell
 pub record TellsShift (w : List ℕ) (t u : Triangle) : Type 0 where

@@ -1,4 +1,4 @@
-pub mod Turned
+pub mod MirroredDirs
 pub mod Mirrors
 pub mod Seen
 pub mod Shifts

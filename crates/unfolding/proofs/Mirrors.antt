@@ -1,4 +1,4 @@
--- What a mirror keeps and what it turns over.
+-- What a mirror keeps and what it reflects.
 use Rattle.std.proofs.Common.{◌≡◌, ℕ, suc, ◌-◌, ◌<◌, List, [], ◌∷◌, ◌++◌, length, take, refl, sym, ap, subst, ◌∙◌, ◌⊎◌, inl, inr, arith}
 use Rattle.std.proofs.Math.Seq.{take-suc}
 use Rattle.std.proofs.lemmas.Bool.Decides.{nat_tests}
@@ -57,7 +57,7 @@ mirror-mirror d z =
     (var 4 ⊟ var 0) (var 1 ⊠ var 3) (num 1)
     refl (corner_times_conj (next_corner d)) (corner_times_conj (next_corner (next_corner d))))
 
--- the mirror images of two points are as far apart as the points, turned over
+-- the mirror images of two points are as far apart as the points, reflected
 mirror-difference : (d : ℕ) (x y : FormalPoint) → mirror d x -ₚ mirror d y ≡ negative (start_of d *ₚ end_of d *ₚ conj (x -ₚ y))
 unfolding mirror
 mirror-difference d x y =
@@ -65,13 +65,13 @@ mirror-difference d x y =
     (ring point_ring (start_of d ∷ end_of d ∷ conj x ∷ conj y ∷ [])
     ((var 0 ⊞ var 1 ⊟ var 0 ⊠ var 1 ⊠ var 2) ⊟ (var 0 ⊞ var 1 ⊟ var 0 ⊠ var 1 ⊠ var 3)) (opp (var 0 ⊠ var 1 ⊠ (var 2 ⊟ var 3))) refl)
 
--- n is to the edge from e to f as o is, turned over
-abbrev pub IsTurnedOver : FormalPoint → FormalPoint → FormalPoint → FormalPoint → Type 0
-IsTurnedOver n o e f = (n -ₚ e) *ₚ conj (f -ₚ e) ≡ conj (o -ₚ e) *ₚ (f -ₚ e)
+-- n is the reflection of o in the line from e to f
+abbrev pub IsReflected : FormalPoint → FormalPoint → FormalPoint → FormalPoint → Type 0
+IsReflected n o e f = (n -ₚ e) *ₚ conj (f -ₚ e) ≡ conj (o -ₚ e) *ₚ (f -ₚ e)
 
 -- so are their images in one more mirror
-turned_over-mirror : (d : ℕ) (n o e f : FormalPoint) → IsTurnedOver n o e f → IsTurnedOver (mirror d n) (mirror d o) (mirror d e) (mirror d f)
-turned_over-mirror d n o e f h =
+IsReflected-mirror : (d : ℕ) (n o e f : FormalPoint) → IsReflected n o e f → IsReflected (mirror d n) (mirror d o) (mirror d e) (mirror d f)
+IsReflected-mirror d n o e f h =
     let back : conj (n -ₚ e) *ₚ (f -ₚ e) ≡ (o -ₚ e) *ₚ conj (f -ₚ e) =
     sym (conj-*ₚ (n -ₚ e) (conj (f -ₚ e)) ∙ ap (λ t. conj (n -ₚ e) *ₚ t) (conj-conj (f -ₚ e)))
     ∙ ap conj h
@@ -82,14 +82,14 @@ turned_over-mirror d n o e f h =
     (opp (var 0 ⊠ var 1 ⊠ var 4) ⊠ opp (var 2 ⊠ var 3 ⊠ var 5)) (opp (var 2 ⊠ var 3 ⊠ var 6) ⊠ opp (var 0 ⊠ var 1 ⊠ var 7))
     (var 0 ⊠ var 1 ⊠ var 2 ⊠ var 3) (var 4 ⊠ var 5) (var 6 ⊠ var 7) refl back))
 
-turned_over-mirrors : (w : List ℕ) (n o e f : FormalPoint) → IsTurnedOver n o e f → IsTurnedOver (mirrors w n) (mirrors w o) (mirrors w e) (mirrors w f)
-turned_over-mirrors [] n o e f h = h
-turned_over-mirrors (d ∷ w) n o e f h = turned_over-mirror d (mirrors w n) (mirrors w o) (mirrors w e) (mirrors w f) (turned_over-mirrors w n o e f h)
+IsReflected-mirrors : (w : List ℕ) (n o e f : FormalPoint) → IsReflected n o e f → IsReflected (mirrors w n) (mirrors w o) (mirrors w e) (mirrors w f)
+IsReflected-mirrors [] n o e f h = h
+IsReflected-mirrors (d ∷ w) n o e f h = IsReflected-mirror d (mirrors w n) (mirrors w o) (mirrors w e) (mirrors w f) (IsReflected-mirrors w n o e f h)
 
--- each point is turned over by the mirror, seen from either end of its edge
-turned_over-from_start : (d : ℕ) (z : FormalPoint) → IsTurnedOver (mirror d z) z (start_of d) (end_of d)
+-- each point is reflected by the mirror, seen from either end of its edge
+IsReflected-from_start : (d : ℕ) (z : FormalPoint) → IsReflected (mirror d z) z (start_of d) (end_of d)
 unfolding mirror
-turned_over-from_start d z =
+IsReflected-from_start d z =
     simp (conj-+ₚ, conj-negative)
     (ring_by₂ point_ring (start_of d ∷ end_of d ∷ conj (start_of d) ∷ conj (end_of d) ∷ z ∷ conj z ∷ [])
     ((var 0 ⊞ var 1 ⊟ var 0 ⊠ var 1 ⊠ var 5 ⊟ var 0) ⊠ (var 3 ⊟ var 2)) ((var 5 ⊟ var 2) ⊠ (var 1 ⊟ var 0))
@@ -97,9 +97,9 @@ turned_over-from_start d z =
     (num 1 ⊟ var 0 ⊠ var 5) (var 1 ⊠ var 3) (num 1)
     refl (corner_times_conj (next_corner d)) (corner_times_conj (next_corner (next_corner d))))
 
-turned_over-from_end : (d : ℕ) (z : FormalPoint) → IsTurnedOver (mirror d z) z (end_of d) (start_of d)
+IsReflected-from_end : (d : ℕ) (z : FormalPoint) → IsReflected (mirror d z) z (end_of d) (start_of d)
 unfolding mirror
-turned_over-from_end d z =
+IsReflected-from_end d z =
     simp (conj-+ₚ, conj-negative)
     (ring_by₂ point_ring (start_of d ∷ end_of d ∷ conj (start_of d) ∷ conj (end_of d) ∷ z ∷ conj z ∷ [])
     ((var 0 ⊞ var 1 ⊟ var 0 ⊠ var 1 ⊠ var 5 ⊟ var 1) ⊠ (var 2 ⊟ var 3)) ((var 5 ⊟ var 3) ⊠ (var 0 ⊟ var 1))
@@ -128,9 +128,9 @@ mirrored_from_start w k h =
     let v = take (k - 1) w in
     record {
       stands = corner_of-next w k (next_corner d) h ∙ ap (mirrors v) (mirror-start d);
-      turned_over =
+      reflected =
           rw (corner_of-next w k d h)
-          (turned_over-mirrors v (mirror d (first_corner d)) (first_corner d) (start_of d) (end_of d) (turned_over-from_start d (first_corner d)));
+          (IsReflected-mirrors v (mirror d (first_corner d)) (first_corner d) (start_of d) (end_of d) (IsReflected-from_start d (first_corner d)));
     }
 
 pub mirrored_from_end : (w : List ℕ) (k : ℕ) → IsPlace w k →
@@ -140,7 +140,7 @@ mirrored_from_end w k h =
     let v = take (k - 1) w in
     record {
       stands = corner_of-next w k (next_corner (next_corner d)) h ∙ ap (mirrors v) (mirror-end d);
-      turned_over =
+      reflected =
           rw (corner_of-next w k d h)
-          (turned_over-mirrors v (mirror d (first_corner d)) (first_corner d) (end_of d) (start_of d) (turned_over-from_end d (first_corner d)));
+          (IsReflected-mirrors v (mirror d (first_corner d)) (first_corner d) (end_of d) (start_of d) (IsReflected-from_end d (first_corner d)));
     }

@@ -7,7 +7,7 @@ use Rattle.exp_sums.specs.FormalPoint.{FormalPoint, monomial, zero_point, negati
 use Rattle.exp_sums.proofs.PointRing.{point_ring, monomial-negative, monomial-*ₚ, monomial-conj, conj-+ₚ, conj-whole_point}
 use Rattle.unfolding.specs.Triangle.{next_corner, corner_dir, first_corner, mirror, mirrors}
 use Rattle.unfolding.specs.Signed.{sign_of, signed_point}
-use Rattle.unfolding.specs.Walk.{is_turned_over, turned, seen_of}
+use Rattle.unfolding.specs.Walk.{is_reversed, mirrored_dir, seen_of}
 use Rattle.unfolding.proofs.Mirrors.{start_of, end_of, mirrors-snoc}
 
 sign_of-not : (b : Bool) → neg_ℤ (pos 1 *ℤ pos 1 *ℤ sign_of b) ≡ sign_of (not b)
@@ -16,20 +16,21 @@ sign_of-not false = refl
 
 -- a direction as it is seen from the centre, after the mirrors of a word
 abbrev seen_point : List ℕ → Dir → FormalPoint
-seen_point w e = monomial (sign_of (is_turned_over w)) (turned w e)
+seen_point w e = monomial (sign_of (is_reversed w)) (mirrored_dir w e)
 
 seen_point-cons : (d : ℕ) (w : List ℕ) (e : Dir) → negative (start_of d *ₚ end_of d *ₚ conj (seen_point w e)) ≡ seen_point (d ∷ w) e
 unfolding first_corner
 seen_point-cons d w e =
-    let s = sign_of (is_turned_over w) in
+    let s = sign_of (is_reversed w) in
     let p = corner_dir (next_corner d) in
     let q = corner_dir (next_corner (next_corner d)) in
     ap negative
-    (ap₂ ◌*ₚ◌ (monomial-*ₚ (pos 1) (pos 1) p q) (monomial-conj s (turned w e)) ∙ monomial-*ₚ (pos 1 *ℤ pos 1) s (dir_sum p q) (dir_neg (turned w e)))
-    ∙ monomial-negative (pos 1 *ℤ pos 1 *ℤ s) (dir_sum (dir_sum p q) (dir_neg (turned w e)))
-    ∙ ap (λ c. monomial c (dir_sum (dir_sum p q) (dir_neg (turned w e)))) (sign_of-not (is_turned_over w))
+    (ap₂ ◌*ₚ◌ (monomial-*ₚ (pos 1) (pos 1) p q) (monomial-conj s (mirrored_dir w e))
+    ∙ monomial-*ₚ (pos 1 *ℤ pos 1) s (dir_sum p q) (dir_neg (mirrored_dir w e)))
+    ∙ monomial-negative (pos 1 *ℤ pos 1 *ℤ s) (dir_sum (dir_sum p q) (dir_neg (mirrored_dir w e)))
+    ∙ ap (λ c. monomial c (dir_sum (dir_sum p q) (dir_neg (mirrored_dir w e)))) (sign_of-not (is_reversed w))
 
--- what is added inside a mirror comes out turned over
+-- what is added inside a mirror comes out reflected
 mirror-+ₚ : (d : ℕ) (x y : FormalPoint) → mirror d (x +ₚ y) ≡ mirror d x +ₚ negative (start_of d *ₚ end_of d *ₚ conj y)
 unfolding mirror
 mirror-+ₚ d x y =
@@ -60,7 +61,8 @@ mirror-zero_point d =
 
 -- the next centre is the old one and the two ends of the crossed edge, as they are seen from there
 pub centre-snoc : (w : List ℕ) (d : ℕ) →
-    mirrors (w ++ d ∷ []) zero_point ≡ mirrors w zero_point +ₚ signed_point (seen_of w (next_corner d)) +ₚ signed_point (seen_of w (next_corner (next_corner d)))
+    mirrors (w ++ d ∷ []) zero_point ≡ mirrors w zero_point +ₚ signed_point (seen_of w (next_corner d)) +ₚ signed_point (seen_of w
+    (next_corner (next_corner d)))
 unfolding first_corner
 centre-snoc w d =
     let p = corner_dir (next_corner d) in

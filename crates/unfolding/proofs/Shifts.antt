@@ -14,8 +14,8 @@ use Rattle.exp_sums.proofs.Directions.{is_same_dir-Decides}
 use Rattle.exp_sums.proofs.SamePoint.{coefficient-+ₚ, coefficient-monomial}
 use Rattle.unfolding.specs.Triangle.{corner_dir, first_corner, mirrors, corner_of}
 use Rattle.unfolding.specs.Shift.{IsShift, HasShift}
-use Rattle.unfolding.specs.Walk.{turned}
-use Rattle.unfolding.proofs.Turned.{is_turned_over-even, turned_from_stable, stable_from_turned}
+use Rattle.unfolding.specs.Walk.{mirrored_dir}
+use Rattle.unfolding.proofs.MirroredDirs.{is_reversed-even, mirrored_from_stable, stable_from_mirrored}
 use Rattle.unfolding.proofs.Seen.{corner_is_seen}
 
 -- two shifts move the first corner to the same place
@@ -25,18 +25,18 @@ same_shift w u v h k =
     ring_by point_ring (u ∷ v ∷ first_corner 1 ∷ []) (var 0) (var 1) (num 1) (var 2 ⊞ var 0) (var 2 ⊞ var 1) refl moved
 
 -- a corner of the last triangle, after an even number of mirrors
-last_corner : (w : List ℕ) (c : ℕ) → length w % 2 ≡ 0 → corner_of w (length w) c ≡ mirrors w zero_point +ₚ monomial (pos 1) (turned w (corner_dir c))
+last_corner : (w : List ℕ) (c : ℕ) → length w % 2 ≡ 0 → corner_of w (length w) c ≡ mirrors w zero_point +ₚ monomial (pos 1) (mirrored_dir w (corner_dir c))
 last_corner w c even =
     ap (λ v. mirrors v (first_corner c)) (take_all (length w) w (omega arith))
     ∙ corner_is_seen w c
-    ∙ ap (λ b. mirrors w zero_point +ₚ monomial (if b then negsuc 0 else pos 1) (turned w (corner_dir c))) (is_turned_over-even w even)
+    ∙ ap (λ b. mirrors w zero_point +ₚ monomial (if b then negsuc 0 else pos 1) (mirrored_dir w (corner_dir c))) (is_reversed-even w even)
 
 -- the centre of the last triangle is the shift of a stable word
 pub shift_from_stable : (w : List ℕ) → All IsLetter w → length w % 2 ≡ 0 → IsStable w → IsShift w (mirrors w zero_point)
 unfolding first_corner
 shift_from_stable w h even stable c corner =
     last_corner w c even
-    ∙ ap (λ e. mirrors w zero_point +ₚ monomial (pos 1) e) (turned_from_stable w (corner_dir c) h even stable)
+    ∙ ap (λ e. mirrors w zero_point +ₚ monomial (pos 1) e) (mirrored_from_stable w (corner_dir c) h even stable)
     ∙ +ₚ_comm (mirrors w zero_point) (first_corner c)
 
 -- 1 where b, and else 0
@@ -49,12 +49,12 @@ the_greater false true h = absurd (omega (arith, ints, h))
 the_greater false false h = absurd (omega (arith, ints, h))
 
 -- a shift brings corner 1 back to its direction, since the coefficients at that direction agree
-pub turned_from_shift : (w : List ℕ) → length w % 2 ≡ 0 → HasShift w → turned w (corner_dir 1) ≡ corner_dir 1
+pub mirrored_from_shift : (w : List ℕ) → length w % 2 ≡ 0 → HasShift w → mirrored_dir w (corner_dir 1) ≡ corner_dir 1
 unfolding first_corner
-turned_from_shift w even (v, shift) =
+mirrored_from_shift w even (v, shift) =
     let d = corner_dir 1 in
-    let t = turned w d in
-    let t' = turned w (corner_dir 2) in
+    let t = mirrored_dir w d in
+    let t' = mirrored_dir w (corner_dir 2) in
     let one : mirrors w zero_point +ₚ monomial (pos 1) t ≡ first_corner 1 +ₚ v = sym (last_corner w 1 even) ∙ shift 1 (omega arith, omega arith) in
     let two : mirrors w zero_point +ₚ monomial (pos 1) t' ≡ first_corner 2 +ₚ v = sym (last_corner w 2 even) ∙ shift 2 (omega arith, omega arith) in
     let points : monomial (pos 1) t +ₚ first_corner 2 ≡ monomial (pos 1) t' +ₚ first_corner 1 =
@@ -67,4 +67,4 @@ turned_from_shift w even (v, shift) =
     sym ((is_same_dir-Decides d t).0 (the_greater (is_same_dir d t) (is_same_dir d t') here))
 
 pub stable_from_shift : (w : List ℕ) → All IsLetter w → length w % 2 ≡ 0 → HasShift w → IsStable w
-stable_from_shift w h even shift = stable_from_turned w (corner_dir 1) h even (turned_from_shift w even shift)
+stable_from_shift w h even shift = stable_from_mirrored w (corner_dir 1) h even (mirrored_from_shift w even shift)

@@ -14,10 +14,11 @@ MirrorsKeepTheirEdges =
 abbrev pub MirrorsUndoThemselves : Type 0
 MirrorsUndoThemselves = (d : ℕ) → IsLetter d → (z : FormalPoint) → mirror d (mirror d z) ≡ z
 
--- the triangle q is the mirror image of p in p's edge from corner e to corner f, and d is the third corner: e and f stand, and q's corner d is to the edge as p's is, turned over
+-- the triangle q is the mirror image of p in p's edge from corner e to corner f, and d is the third corner: e and f stand, and q's corner d is the
+-- reflection of p's in the edge
 pub record IsMirrored (p q : ℕ → FormalPoint) (d e f : ℕ) : Type 0 where
   pub stands : q e ≡ p e
-  pub turned_over : (q d -ₚ p e) *ₚ conj (p f -ₚ p e) ≡ conj (p d -ₚ p e) *ₚ (p f -ₚ p e)
+  pub reflected : (q d -ₚ p e) *ₚ conj (p f -ₚ p e) ≡ conj (p d -ₚ p e) *ₚ (p f -ₚ p e)
 
 -- each triangle is the mirror image of the one before it in the crossed edge, seen from either end of the edge
 abbrev pub MirrorLaw : Type 0
@@ -28,7 +29,8 @@ MirrorLaw =
     let f = next_corner e in
     IsMirrored (corner_of w (k - 1)) (corner_of w k) d e f × IsMirrored (corner_of w (k - 1)) (corner_of w k) d f e
 
--- The path leaves triangle k − 1 through its edge d, the k-th letter. Triangles of even number run counterclockwise, those of odd number clockwise; so the left end of the edge is corner d + 2 of an even triangle, corner d + 1 of an odd one, counted cyclically.
+-- The path leaves triangle k − 1 through its edge d, the k-th letter. Triangles of even number run counterclockwise, those of odd number clockwise;
+-- so the left end of the edge is corner d + 2 of an even triangle, corner d + 1 of an odd one, counted cyclically.
 -- the upper end of the k-th edge
 abbrev pub upper_corner : List ℕ → ℕ → FormalPoint
 upper_corner w k =

@@ -6,18 +6,18 @@ use Rattle.exp_sums.specs.declared.direction.Dir.{Dir}
 use Rattle.exp_sums.specs.FormalPoint.{zero_point}
 use Rattle.exp_sums.specs.Limits.{weight, IsNear, IsWithin}
 use Rattle.unfolding.specs.Triangle.{corner_dir, first_corner, mirrors}
-use Rattle.unfolding.specs.Walk.{is_turned_over, turned}
+use Rattle.unfolding.specs.Walk.{is_reversed, mirrored_dir}
 use Rattle.unfolding.specs.declared.triangle.Triangle.{Triangle}
 
 -- the directions of the corners, but for their sign, after the mirrors of a word
 abbrev pub dirs_of : List ℕ → List Dir
-dirs_of w = turned w (corner_dir 1) ∷ turned w (corner_dir 2) ∷ turned w (corner_dir 3) ∷ []
+dirs_of w = mirrored_dir w (corner_dir 1) ∷ mirrored_dir w (corner_dir 2) ∷ mirrored_dir w (corner_dir 3) ∷ []
 
 -- the triangle after the mirrors of a word
 abbrev pub triangle_of : List ℕ → Triangle
 triangle_of w = record {
   centre = mirrors w zero_point;
-  minus = is_turned_over w;
+  minus = is_reversed w;
   dirs = dirs_of w;
   corners = mirrors w (first_corner 1) ∷ mirrors w (first_corner 2) ∷ mirrors w (first_corner 3) ∷ [];
 }

@@ -1,5 +1,6 @@
--- The shift of a word: where the last triangle is the first one, moved and not turned.
--- Source: Richard Evan Schwartz, Obtuse Triangular Billiards I: Near the (2, 3, 6) Triangle, Experimental Mathematics 15 (2006), where a word whose last triangle is a translate for each triangle is called stable.
+-- The shift of a word: where the last triangle is the first one, moved and not rotated.
+-- Source: Richard Evan Schwartz, Obtuse Triangular Billiards I: Near the (2, 3, 6) Triangle, Experimental Mathematics 15 (2006), where a word whose
+-- last triangle is a translate for each triangle is called stable.
 
 use Rattle.std.specs.Prelude.{◌≡◌, ◌↔◌, ℕ, ◌%◌, List, length, All}
 use Rattle.edge_words.specs.Letters.{IsLetter}

@@ -1,7 +1,10 @@
 -- The first triangle, its mirrors, and the triangles of a word.
--- The triangle is inscribed in the unit circle. Its angles at corners 1, 2 and 3 are πx, πy and π(1 − x − y), and its corners are the directions below, counterclockwise. Edge d is opposite corner d.
--- A path that crosses the edges of a word goes on straight where the triangle is mirrored in each edge that it crosses. The k-th triangle is the first one after k mirrors.
--- Source: the usual account of unfolding, as in Richard Evan Schwartz, Obtuse Triangular Billiards I: Near the (2, 3, 6) Triangle, Experimental Mathematics 15 (2006). The numbering and the unit circle are this program's own.
+-- The triangle is inscribed in the unit circle. Its angles at corners 1, 2 and 3 are πx, πy and π(1 − x − y), and its corners are the directions
+-- below, counterclockwise. Edge d is opposite corner d.
+-- A path that crosses the edges of a word goes on straight where the triangle is mirrored in each edge that it crosses. The k-th triangle is the
+-- first one after k mirrors.
+-- Source: the usual account of unfolding, as in Richard Evan Schwartz, Obtuse Triangular Billiards I: Near the (2, 3, 6) Triangle, Experimental
+-- Mathematics 15 (2006). The numbering and the unit circle are this program's own.
 
 use Rattle.std.specs.Prelude.{ℕ, pos, negsuc, ◌+◌, ◌==◌, ◌≤◌, List, [], ◌∷◌, take, if◌then◌else◌}
 use Rattle.exp_sums.specs.declared.direction.Dir.{Dir}

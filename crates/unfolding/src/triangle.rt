@@ -6,7 +6,7 @@ ghost use Rattle.exp_sums.specs.Limits.{weight, IsNear, IsWithin};
 ghost use Rattle.unfolding.specs.Kept.{dirs_of, triangle_of, IsSmall};
 ghost use Rattle.unfolding.specs.Triangle.{IsCorner, next_corner, mirrors};
 ghost use Rattle.unfolding.specs.Signed.{sign_of};
-ghost use Rattle.unfolding.specs.Walk.{is_turned_over};
+ghost use Rattle.unfolding.specs.Walk.{is_reversed};
 
 use exp_sums::{Dir, ExpSum};
 use std::alloc::{AllocError as OutOfMemory, Global};
@@ -85,8 +85,7 @@ fn moved(alloc: Global, from: &ExpSum, minus: bool, dir: Dir) -> Result<ExpSum, 
     requires near { IsNear 1000 dir }
     ensures { IfOk result (λ p. p ≡ from.now +ₚ monomial (sign_of minus) dir) }
 {
-    let mut to = ExpSum::new(alloc);
-    to.add(from)?;
+    let mut to = from.copied(alloc)?;
     to.add_dir(dir, sign(minus))?;
     Ok(to)
 }
@@ -102,7 +101,7 @@ impl Triangle {
         requires light { weight centre ≤ 1000 }
         requires within { IsWithin 1000 centre }
         requires near { All (IsNear 1000) dirs }
-        ensures { IfOk result (λ t. (w : List ℕ) → centre ≡ mirrors w zero_point → minus ≡ is_turned_over w → dirs ≡ dirs_of w → t ≡ triangle_of w) }
+        ensures { IfOk result (λ t. (w : List ℕ) → centre ≡ mirrors w zero_point → minus ≡ is_reversed w → dirs ≡ dirs_of w → t ≡ triangle_of w) }
     {
         let first = moved(alloc, &centre, minus, dirs[0])?;
         let second = moved(alloc, &centre, minus, dirs[1])?;

@@ -24,7 +24,7 @@ use std::marker::Model;
 /// size. Only `of` takes memory.
 #[derive(Drop)]
 pub struct Unfolding {
-    letters: Vec<u8>,
+    word: Word,
     triangles: Vec<Triangle>,
 }
 
@@ -34,9 +34,9 @@ impl Model for Unfolding {
 
     ghost Value = { List ℕ };
 
-    ghost view = { λ u. u.letters.items };
+    ghost view = { λ u. u.word };
 
-    ghost invariant = { λ u. IsUnfolding u.letters.items u.triangles.items };
+    ghost invariant = { λ u. IsUnfolding u.word u.triangles.items };
 }
 
 impl Unfolding {
@@ -45,9 +45,11 @@ impl Unfolding {
         ensures word { IfOk result (λ u. u ≡ word.now) }
         ensures stable { IfOk result (λ u. HasShift u ↔ IsStable u) }
     {
-        let letters = Vec::from_slice(alloc, word.letters())?;
         let triangles = triangles_along(alloc, word.letters())?;
-        Ok(Unfolding { letters, triangles })
+        Ok(Unfolding {
+            word: word.copied(),
+            triangles,
+        })
     }
 
     /// How many letters the word has.
@@ -55,15 +57,15 @@ impl Unfolding {
         ensures count { result ≡ length self.now }
         ensures word { IsWord self.now }
     {
-        self.letters.len() as u32
+        self.word.letters().len() as u32
     }
 
-    /// The word, as the numbers 1, 2 and 3.
-    pub fn word(&self) -> &[u8]
+    /// The word.
+    pub fn word(&self) -> &Word
         ensures all { result.now ≡ self.now }
         ensures is_word { IsWord self.now }
     {
-        self.letters.as_slice()
+        &self.word
     }
 
     /// The centre of the circle round triangle k.
@@ -112,7 +114,7 @@ impl Unfolding {
         // from each upper end to each lower one
         ensures apart { (l : ℕ) → IsPlace self.now l → weight (result.now -ₚ lower_corner self.now l) ≤ 128 }
     {
-        let after = next_corner(self.letters[k as usize - 1]);
+        let after = next_corner(self.word.letters()[k as usize - 1]);
         let before = next_corner(after);
         let corner = if k % 2 == 1 { before } else { after };
         self.corner(k - 1, corner)
@@ -126,7 +128,7 @@ impl Unfolding {
         ensures within { IsWithin 65 result.now }
         ensures apart { (l : ℕ) → IsPlace self.now l → weight (upper_corner self.now l -ₚ result.now) ≤ 128 }
     {
-        let after = next_corner(self.letters[k as usize - 1]);
+        let after = next_corner(self.word.letters()[k as usize - 1]);
         let before = next_corner(after);
         let corner = if k % 2 == 1 { after } else { before };
         self.corner(k - 1, corner)
@@ -141,7 +143,7 @@ impl Unfolding {
         ensures within { IfSome result (λ v. IsWithin 65 v.now) }
     {
         let first = &self.triangles[0];
-        let last = &self.triangles[self.letters.len()];
+        let last = &self.triangles[self.word.letters().len()];
         if last.is_translate_of(first) {
             Some(&last.centre)
         } else {

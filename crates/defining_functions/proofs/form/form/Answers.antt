@@ -12,8 +12,10 @@ way_is c = c.in_ok-sub.ensures.ok ∙ ap (λ p. p -ₚ c.args.lower.now) c.in_ok
 
 pub times-requires-clause-light : goal.times-requires-clause-light
 times-requires-clause-light c =
-    subst (λ p. weight c.args.turned.now * weight p ≤ greatest_weight) (sym (way_is c)) (light_way c.args.turned.now c.args.upper.now c.args.lower.now c.requires.turned c.requires.upper c.requires.lower)
+    subst (λ p. weight c.args.conjugate.now * weight p ≤ greatest_weight) (sym (way_is c))
+    (light_way c.args.conjugate.now c.args.upper.now c.args.lower.now c.requires.conjugate c.requires.upper c.requires.lower)
 
 pub times-requires-clause-near : goal.times-requires-clause-near
 times-requires-clause-near c =
-    subst (λ p. SumsAreNear (terms c.args.turned.now) (terms p)) (sym (way_is c)) (near_way c.args.turned.now c.args.upper.now c.args.lower.now c.requires.turned c.requires.upper c.requires.lower)
+    subst (λ p. SumsAreNear (terms c.args.conjugate.now) (terms p)) (sym (way_is c))
+    (near_way c.args.conjugate.now c.args.upper.now c.args.lower.now c.requires.conjugate c.requires.upper c.requires.lower)

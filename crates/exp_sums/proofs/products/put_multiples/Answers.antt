@@ -21,13 +21,21 @@ product-requires-clause-light c =
 
 pub put-requires-clause-canonical : goal.put-requires-clause-canonical
 put-requires-clause-canonical c =
-    rw c.loop-other.invariant.items (is_canonical-put_terms (map (term_product c.args.term) (take c.loop-other.other-index c.args.more.now)) c.args.terms.now.items c.requires.canonical)
+    rw c.loop-other.invariant.items
+    (is_canonical-put_terms
+    (map (term_product c.args.term) (take c.loop-other.other-index c.args.more.now)) c.args.terms.now.items c.requires.canonical)
 
 pub put-requires-clause-room : goal.put-requires-clause-room
 put-requires-clause-room c =
     let done = take c.loop-other.other-index c.args.more.now in
     rw (c.loop-other.invariant.items, c.loop-other.invariant.capacity)
-    (omega (arith, length-put_terms (map (term_product c.args.term) done) c.args.terms.now.items, c.requires.room, length-take c.loop-other.other-index c.args.more.now, length-map done (term_product c.args.term)))
+    (omega (
+      arith,
+      length-put_terms (map (term_product c.args.term) done) c.args.terms.now.items,
+      c.requires.room,
+      length-take c.loop-other.other-index c.args.more.now,
+      length-map done (term_product c.args.term),
+    ))
 
 pub put-requires-clause-fits : goal.put-requires-clause-fits
 unfolding blank

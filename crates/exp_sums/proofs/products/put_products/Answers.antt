@@ -16,7 +16,8 @@ blank = record { dir = record { m = pos 0; n = pos 0 }; c = pos 0 }
 pub put_multiples-requires-clause-canonical : goal.put_multiples-requires-clause-canonical
 put_multiples-requires-clause-canonical c =
     rw (c.reserve.ensures.items, c.loop-term.invariant)
-    (is_canonical-put_terms (flat_map (λ t. map (term_product t) c.args.second.now) (take c.loop-term.term-index c.args.first.now)) c.args.terms.now.items c.requires.canonical)
+    (is_canonical-put_terms
+    (flat_map (λ t. map (term_product t) c.args.second.now) (take c.loop-term.term-index c.args.first.now)) c.args.terms.now.items c.requires.canonical)
 
 pub put_multiples-requires-clause-light : goal.put_multiples-requires-clause-light
 unfolding blank
@@ -26,4 +27,10 @@ put_multiples-requires-clause-light c =
     let i = c.loop-term.term-index in
     let light = sum_by_more_le (λ (t : Term). unsigned_abs t.c) first i blank c.loop-term-test.true in
     rw (c.reserve.ensures.items, c.loop-term.invariant)
-    (omega (arith, weight-put_terms (flat_map (λ t. map (term_product t) second) (take i first)) c.args.terms.now.items, weight_products (take i first) second, mul-le-mul_right (terms_weight second) light, c.requires.light))
+    (omega (
+      arith,
+      weight-put_terms (flat_map (λ t. map (term_product t) second) (take i first)) c.args.terms.now.items,
+      weight_products (take i first) second,
+      mul-le-mul_right (terms_weight second) light,
+      c.requires.light,
+    ))

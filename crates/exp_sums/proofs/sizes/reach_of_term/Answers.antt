@@ -50,7 +50,8 @@ overflow_mul-result c =
     let near = c.requires.near in
     product_fits c.abs.result c.from.result (unsigned_abs t.c) (dir_reach t.dir)
     (coefficient_is t.c c.abs.result c.requires.light c.abs.ensures.value)
-    (c.from.ensures ∙ sum_is c.abs-2.result c.abs-3.result (unsigned_abs t.dir.m) (unsigned_abs t.dir.n) (abs_is t.dir.m c.abs-2.result near.m c.abs-2.ensures.value) (abs_is t.dir.n c.abs-3.result near.n c.abs-3.ensures.value) near.m near.n)
+    (c.from.ensures ∙ sum_is c.abs-2.result c.abs-3.result (unsigned_abs t.dir.m) (unsigned_abs t.dir.n)
+    (abs_is t.dir.m c.abs-2.result near.m c.abs-2.ensures.value) (abs_is t.dir.n c.abs-3.result near.n c.abs-3.ensures.value) near.m near.n)
     c.requires.light
     (omega (arith, near.m, near.n))
 
@@ -60,6 +61,7 @@ returns c =
     let near = c.requires.near in
     product_kept c.abs.result c.from.result (unsigned_abs t.c) (dir_reach t.dir)
     (coefficient_is t.c c.abs.result c.requires.light c.abs.ensures.value)
-    (c.from.ensures ∙ sum_is c.abs-2.result c.abs-3.result (unsigned_abs t.dir.m) (unsigned_abs t.dir.n) (abs_is t.dir.m c.abs-2.result near.m c.abs-2.ensures.value) (abs_is t.dir.n c.abs-3.result near.n c.abs-3.ensures.value) near.m near.n)
+    (c.from.ensures ∙ sum_is c.abs-2.result c.abs-3.result (unsigned_abs t.dir.m) (unsigned_abs t.dir.n)
+    (abs_is t.dir.m c.abs-2.result near.m c.abs-2.ensures.value) (abs_is t.dir.n c.abs-3.result near.n c.abs-3.ensures.value) near.m near.n)
     c.requires.light
     (omega (arith, near.m, near.n))

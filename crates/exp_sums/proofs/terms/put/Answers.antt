@@ -1,4 +1,5 @@
-use Rattle.std.proofs.Common.{◌≡◌, rules, arith, sym, ap, subst, ◌∙◌, pos, length, ◌+ℤ◌, get_or, set, List, FitsSigned, to_z, of_z, ℤ, length-set, drop, refl, ◌≢◌}
+use Rattle.std.proofs.Common.{◌≡◌, rules, arith, sym, ap, subst, ◌∙◌, pos, length, ◌+ℤ◌, get_or, set, List, FitsSigned, to_z, of_z, ℤ, length-set, drop}
+use Rattle.std.proofs.Common.{refl, ◌≢◌}
 use Rattle.std.specs.List.{refill, insert}
 use Rattle.std.proofs.Math.Seq.{take-append_seam}
 use Rattle.std.specs.Int.{w64}
@@ -40,7 +41,8 @@ overflow_add-c c =
     let given : SFits w64 c.args.term.c = search rules in
     let stored : SFits w64 (get_or c.deref-in-Ok.result.now c.in-Ok.at blank).c = search rules in
     let fits = c.requires.fits in
-    rw (to_z-of_z w64 c.args.term.c given) (rw (to_z-of_z w64 (get_or c.deref-in-Ok.result.now c.in-Ok.at blank).c stored) (rw (c.deref-in-Ok.ensures, ← here) fits))
+    rw (to_z-of_z w64 c.args.term.c given)
+    (rw (to_z-of_z w64 (get_or c.deref-in-Ok.result.now c.in-Ok.at blank).c stored) (rw (c.deref-in-Ok.ensures, ← here) fits))
 
 pub returns-then-c-eq0-clause-items : goal.returns-then-c-eq0-clause-items
 unfolding blank
@@ -64,9 +66,11 @@ returns-else-c-eq0-clause-items c =
     let stored : SFits w64 (get_or c.deref-in-Ok.result.now c.in-Ok.at blank).c = search rules in
     let fits : FitsSigned w64 (c.args.term.c +ℤ (get_or c.deref-in-Ok.result.now c.in-Ok.at blank).c) = rw (c.deref-in-Ok.ensures, ← here) c.requires.fits in
     let kept = sum_is_kept c.args.term.c (get_or c.deref-in-Ok.result.now c.in-Ok.at blank).c given stored fits in
-    let other : c.args.term.c +ℤ (get_or items c.in-Ok.at blank).c ≢ pos 0 = rw c.deref-in-Ok.ensures at (sum_is_other c.args.term.c (get_or c.deref-in-Ok.result.now c.in-Ok.at blank).c given stored c.if-c-eq0.false) in
+    let other : c.args.term.c +ℤ (get_or items c.in-Ok.at blank).c ≢ pos 0 =
+    rw c.deref-in-Ok.ensures at (sum_is_other c.args.term.c (get_or c.deref-in-Ok.result.now c.in-Ok.at blank).c given stored c.if-c-eq0.false) in
     rw (kept, c.deref-in-Ok.ensures, c.deref_mut.ensures.value)
-    (refill_whole items (set items c.in-Ok.at (sum_at c.args.term items c.in-Ok.at blank)) (length-set items c.in-Ok.at (sum_at c.args.term items c.in-Ok.at blank))
+    (refill_whole items (set items c.in-Ok.at (sum_at c.args.term items c.in-Ok.at blank))
+    (length-set items c.in-Ok.at (sum_at c.args.term items c.in-Ok.at blank))
     ∙ sym (put_joins c.args.term items c.in-Ok.at blank c.requires.canonical place other))
 
 pub returns-then-term-ne0-clause-items : goal.returns-then-term-ne0-clause-items

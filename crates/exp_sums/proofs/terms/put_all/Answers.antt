@@ -10,12 +10,14 @@ blank : Term
 blank = record { dir = record { m = pos 0; n = pos 0 }; c = pos 0 }
 
 pub put-requires-clause-canonical : goal.put-requires-clause-canonical
-put-requires-clause-canonical c = rw c.loop-term.invariant.items (is_canonical-put_terms (take c.loop-term.term-index c.args.more.now) c.args.terms.now.items c.requires.canonical)
+put-requires-clause-canonical c = rw c.loop-term.invariant.items
+    (is_canonical-put_terms (take c.loop-term.term-index c.args.more.now) c.args.terms.now.items c.requires.canonical)
 
 pub put-requires-clause-room : goal.put-requires-clause-room
 put-requires-clause-room c =
     let before = length-put_terms (take c.loop-term.term-index c.args.more.now) c.args.terms.now.items in
-    rw (c.loop-term.invariant.items, c.loop-term.invariant.capacity) (omega (arith, before, c.requires.room, length-take c.loop-term.term-index c.args.more.now))
+    rw (c.loop-term.invariant.items, c.loop-term.invariant.capacity)
+    (omega (arith, before, c.requires.room, length-take c.loop-term.term-index c.args.more.now))
 
 pub put-requires-clause-fits : goal.put-requires-clause-fits
 unfolding blank

@@ -13,12 +13,20 @@ blank : Term
 blank = record { dir = record { m = pos 0; n = pos 0 }; c = pos 0 }
 
 pub put-requires-clause-canonical : goal.put-requires-clause-canonical
-put-requires-clause-canonical c = rw c.loop-term.invariant.items (is_canonical-put_terms (map term_neg (take c.loop-term.term-index c.args.more.now)) c.args.terms.now.items c.requires.canonical)
+put-requires-clause-canonical c = rw c.loop-term.invariant.items
+    (is_canonical-put_terms (map term_neg (take c.loop-term.term-index c.args.more.now)) c.args.terms.now.items c.requires.canonical)
 
 pub put-requires-clause-room : goal.put-requires-clause-room
 put-requires-clause-room c =
     let before = length-put_terms (map term_neg (take c.loop-term.term-index c.args.more.now)) c.args.terms.now.items in
-    rw (c.loop-term.invariant.items, c.loop-term.invariant.capacity) (omega (arith, before, c.requires.room, length-take c.loop-term.term-index c.args.more.now, length-map (take c.loop-term.term-index c.args.more.now) term_neg))
+    rw (c.loop-term.invariant.items, c.loop-term.invariant.capacity)
+    (omega (
+      arith,
+      before,
+      c.requires.room,
+      length-take c.loop-term.term-index c.args.more.now,
+      length-map (take c.loop-term.term-index c.args.more.now) term_neg,
+    ))
 
 pub put-requires-clause-fits : goal.put-requires-clause-fits
 unfolding blank
@@ -28,4 +36,6 @@ put-requires-clause-fits c =
     let light = sum_by_more_le (λ (t : Term). unsigned_abs t.c) more i blank c.loop-term-test.true in
     let small : unsigned_abs (get_or more i blank).c ≤ greatest_weight = omega (arith, light, c.requires.light) in
     rw (negated_is (get_or more i blank).c small, c.loop-term.invariant.items)
-    (step_fits (map term_neg (take i more)) c.args.terms.now.items (term_neg (get_or more i blank)) (let size : unsigned_abs (neg_ℤ (get_or more i blank).c) ≡ unsigned_abs (get_or more i blank).c = omega (arith, ints) in omega (arith, size, light, weight_negated (take i more), c.requires.light)))
+    (step_fits (map term_neg (take i more)) c.args.terms.now.items (term_neg (get_or more i blank))
+    (let size : unsigned_abs (neg_ℤ (get_or more i blank).c) ≡ unsigned_abs (get_or more i blank).c = omega (arith, ints) in
+    omega (arith, size, light, weight_negated (take i more), c.requires.light)))

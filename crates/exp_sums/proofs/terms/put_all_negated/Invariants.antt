@@ -3,7 +3,7 @@ use Rattle.exp_sums.specs.Terms.{put_terms}
 use Rattle.exp_sums.specs.FormalPoint.{term_neg}
 use Rattle.exp_sums.proofs.terms.put_all_negated.Given as goal
 
--- the terms so far are put with their signs turned, without more room
+-- the terms so far are put with their coefficients negated, without more room
 abbrev pub invariant-loop-term : goal.invariant-loop-term
 invariant-loop-term l = record {
   items : l.terms.items ≡ put_terms (map term_neg (take l.term-index l.more)) l.fn.terms.items;

@@ -6,18 +6,20 @@ use Rattle.defining_functions.proofs.Limits.{IsSmall-conj, shift_small}
 use Rattle.defining_functions.proofs.functions.Functions.along.Goals as goal
 
 pub rows-requires-clause-small : goal.rows-requires-clause-small
-rows-requires-clause-small c = subst IsSmall (sym c.in_ok-turned.ensures) (IsSmall-conj _ (shift_small c.args.u.now c.args.shift.now c.word.ensures.is_word c.requires))
+rows-requires-clause-small c = subst IsSmall (sym c.in_ok-conjugate.ensures)
+    (IsSmall-conj _ (shift_small c.args.u.now c.args.shift.now c.word.ensures.is_word c.requires))
 
-pub rows-requires-clause-turned : goal.rows-requires-clause-turned
-rows-requires-clause-turned c v shift = c.in_ok-turned.ensures ∙ ap conj (same_shift c.args.u.now c.args.shift.now v c.requires shift)
+pub rows-requires-clause-conjugate : goal.rows-requires-clause-conjugate
+rows-requires-clause-conjugate c v shift = c.in_ok-conjugate.ensures ∙ ap conj (same_shift c.args.u.now c.args.shift.now v c.requires shift)
 
 pub invariant_of-result : goal.invariant_of-result
 invariant_of-result c =
-    subst (λ w. IsFunctions w c.in_ok-turned.turned c.in_ok-uppers.uppers.items c.in_ok-lowers.lowers.items c.in_ok-rows.rows.items) (sym (c.in_ok-letters.ensures.items ∙ c.word.ensures.all))
+    subst (λ w. IsFunctions w c.in_ok-conjugate.conjugate c.in_ok-uppers.uppers.items c.in_ok-lowers.lowers.items c.in_ok-rows.rows.items)
+    (sym (c.copied-word.ensures ∙ c.word.ensures.all))
     (record {
       word = c.word.ensures.is_word;
       shift = (c.args.shift.now, c.requires);
-      turned_shift = λ v shift. c.in_ok-turned.ensures ∙ ap conj (same_shift c.args.u.now c.args.shift.now v c.requires shift);
+      conjugate_shift = λ v shift. c.in_ok-conjugate.ensures ∙ ap conj (same_shift c.args.u.now c.args.shift.now v c.requires shift);
       each_upper = c.in_ok-uppers.ensures;
       each_lower = c.in_ok-lowers.ensures;
       each_row = c.in_ok-rows.ensures;

@@ -8,10 +8,11 @@ use Rattle.defining_functions.proofs.Limits.{function_limits}
 use Rattle.defining_functions.proofs.functions.Functions.weight.Goals as goal
 use Rattle.defining_functions.proofs.functions.Functions.weight.Goals.{After-result-1}
 
-kept : (c : After-result-1) → IsFunctions c.args.self.now c.self.inside.turned c.self.inside.uppers.items c.self.inside.lowers.items c.self.inside.rows.items
-kept c = subst (λ w. IsFunctions w c.self.inside.turned c.self.inside.uppers.items c.self.inside.lowers.items c.self.inside.rows.items) c.self.view_is c.self.invariant
+kept : (c : After-result-1) → IsFunctions c.args.self.now c.self.inside.conjugate c.self.inside.uppers.items c.self.inside.lowers.items c.self.inside.rows.items
+kept c = subst (λ w. IsFunctions w c.self.inside.conjugate c.self.inside.uppers.items c.self.inside.lowers.items c.self.inside.rows.items) c.self.view_is c.self.invariant
 
-sizes : (c : After-result-1) (v : FormalPoint) → IsShift c.args.self.now v → c.index-2.result.now ≡ sizes_of (defining_function v c.args.self.now c.args.k c.args.l)
+sizes : (c : After-result-1) (v : FormalPoint) → IsShift c.args.self.now v
+    → c.index-2.result.now ≡ sizes_of (defining_function v c.args.self.now c.args.k c.args.l)
 sizes c = kept_sizes _ _ _ _ _ (kept c) c.args.k c.args.l _ _ c.requires.upper c.requires.lower c.index.ensures c.index-2.ensures
 
 limits : (c : After-result-1) (v : FormalPoint) → IsShift c.args.self.now v → IsWithinFunctionLimits (defining_function v c.args.self.now c.args.k c.args.l)

@@ -10,12 +10,14 @@ pub put_all-requires-clause-light : goal.put_all-requires-clause-light
 put_all-requires-clause-light c =
     let own = weight-canonical c.self.inside.terms.items c.self.invariant.canonical in
     let others = weight-canonical c.other.inside.terms.items c.other.invariant.canonical in
-    let light : weight (point_of c.self.inside.terms.items) + weight (point_of c.other.inside.terms.items) ≤ greatest_weight = rw (c.self.view_is, c.other.view_is) c.requires in
+    let light : weight (point_of c.self.inside.terms.items) + weight (point_of c.other.inside.terms.items) ≤ greatest_weight =
+    rw (c.self.view_is, c.other.view_is) c.requires in
     rw (c.reserve.ensures.items, c.deref.ensures) (omega (arith, own, others, light))
 
 pub invariant_of-self-2 : goal.invariant_of-self-2
 invariant_of-self-2 c =
-    let light : weight (point_of c.self.inside.terms.items) + weight (point_of c.other.inside.terms.items) ≤ greatest_weight = rw (c.self.view_is, c.other.view_is) c.requires in
+    let light : weight (point_of c.self.inside.terms.items) + weight (point_of c.other.inside.terms.items) ≤ greatest_weight =
+    rw (c.self.view_is, c.other.view_is) c.requires in
     rw (c.put_all.ensures.items, c.reserve.ensures.items, c.deref.ensures)
     (kept-put_terms c.other.inside.terms.items c.self.inside.terms.items c.self.invariant.canonical
     (limits-+ₚ (point_of c.self.inside.terms.items) (point_of c.other.inside.terms.items) c.self.invariant.limits c.other.invariant.limits light))

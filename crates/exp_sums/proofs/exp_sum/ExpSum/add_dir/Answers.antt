@@ -15,11 +15,14 @@ put-requires-clause-fits c =
 pub invariant_of-self-2 : goal.invariant_of-self-2
 invariant_of-self-2 c =
     let limits = subst (λ p. IsWithinLimits (p +ₚ monomial c.args.c c.args.dir)) (sym c.self.view_is) c.requires in
-    rw (c.put.ensures.items, to_z-of_z w64 c.args.c c.ranges.c, c.make_room.ensures.items) (kept-put (term_of c.args.c c.args.dir) c.self.inside.terms.items c.self.invariant.canonical limits)
+    rw (c.put.ensures.items, to_z-of_z w64 c.args.c c.ranges.c, c.make_room.ensures.items)
+    (kept-put (term_of c.args.c c.args.dir) c.self.inside.terms.items c.self.invariant.canonical limits)
 
 pub returns-clause-ok : goal.returns-clause-ok
 returns-clause-ok c =
-    ap point_of (rw (c.put.ensures.items, to_z-of_z w64 c.args.c c.ranges.c, c.make_room.ensures.items) (λ i. put_term (term_of c.args.c c.args.dir) c.self.inside.terms.items))
+    ap point_of
+    (rw (c.put.ensures.items, to_z-of_z w64 c.args.c c.ranges.c, c.make_room.ensures.items)
+    (λ i. put_term (term_of c.args.c c.args.dir) c.self.inside.terms.items))
     ∙ point_of-put (term_of c.args.c c.args.dir) c.self.inside.terms.items
     ∙ ap (λ p. p +ₚ monomial c.args.c c.args.dir) c.self.view_is
 

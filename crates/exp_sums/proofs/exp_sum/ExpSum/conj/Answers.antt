@@ -15,11 +15,14 @@ put_all_conj-requires-clause-near c = rw c.deref.ensures (near_kept c.self.insid
 
 pub invariant_of-result : goal.invariant_of-result
 invariant_of-result c =
-    rw (c.put_all_conj.ensures.items, c.reserve.ensures.items, c.new-terms.ensures.items, c.deref.ensures) (kept_conj c.self.inside.terms.items c.self.invariant)
+    rw (c.put_all_conj.ensures.items, c.reserve.ensures.items, c.new-terms.ensures.items, c.deref.ensures)
+    (kept_conj c.self.inside.terms.items c.self.invariant)
 
 pub returns : goal.returns
 returns c =
-    ap point_of (c.put_all_conj.ensures.items ∙ ap₂ (λ (ts us : List Term). put_terms (map term_conj ts) us) c.deref.ensures (c.reserve.ensures.items ∙ c.new-terms.ensures.items))
+    ap point_of
+    (c.put_all_conj.ensures.items
+    ∙ ap₂ (λ (ts us : List Term). put_terms (map term_conj ts) us) c.deref.ensures (c.reserve.ensures.items ∙ c.new-terms.ensures.items))
     ∙ point_of_listed (map term_conj c.self.inside.terms.items)
     ∙ point_of-conj c.self.inside.terms.items c.self.invariant.canonical
     ∙ ap conj c.self.view_is

@@ -17,11 +17,14 @@ put_all_sines-requires-clause-near c = rw c.deref.ensures (near_kept c.self.insi
 
 pub invariant_of-result : goal.invariant_of-result
 invariant_of-result c =
-    rw (c.put_all_sines.ensures.items, c.reserve.ensures.items, c.new-terms.ensures.items, c.deref.ensures) (kept_sines c.self.inside.terms.items c.self.invariant)
+    rw (c.put_all_sines.ensures.items, c.reserve.ensures.items, c.new-terms.ensures.items, c.deref.ensures)
+    (kept_sines c.self.inside.terms.items c.self.invariant)
 
 pub returns : goal.returns
 returns c =
-    ap point_of (c.put_all_sines.ensures.items ∙ ap₂ (λ (ts us : List Term). put_terms (flat_map sine_terms ts) us) c.deref.ensures (c.reserve.ensures.items ∙ c.new-terms.ensures.items))
+    ap point_of
+    (c.put_all_sines.ensures.items
+    ∙ ap₂ (λ (ts us : List Term). put_terms (flat_map sine_terms ts) us) c.deref.ensures (c.reserve.ensures.items ∙ c.new-terms.ensures.items))
     ∙ point_of_listed (flat_map sine_terms c.self.inside.terms.items)
     ∙ point_of-sine_terms c.self.inside.terms.items c.self.invariant.canonical
     ∙ ap sine_form c.self.view_is

@@ -11,7 +11,8 @@ pub put_all_negated-requires-clause-light : goal.put_all_negated-requires-clause
 put_all_negated-requires-clause-light c =
     let own = weight-canonical c.self.inside.terms.items c.self.invariant.canonical in
     let others = weight-canonical c.other.inside.terms.items c.other.invariant.canonical in
-    let light : weight (point_of c.self.inside.terms.items) + weight (point_of c.other.inside.terms.items) ≤ greatest_weight = rw (c.self.view_is, c.other.view_is) c.requires in
+    let light : weight (point_of c.self.inside.terms.items) + weight (point_of c.other.inside.terms.items) ≤ greatest_weight =
+    rw (c.self.view_is, c.other.view_is) c.requires in
     rw (c.reserve.ensures.items, c.deref.ensures) (omega (arith, own, others, light))
 
 pub invariant_of-self-2 : goal.invariant_of-self-2

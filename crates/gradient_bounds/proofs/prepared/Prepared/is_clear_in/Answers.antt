@@ -6,14 +6,14 @@ use Rattle.std.proofs.lemmas.List.Elements.{All-more}
 use Rattle.exp_sums.specs.FormalPoint.{FormalPoint}
 use Rattle.gradient_bounds.specs.Corridor.{EachFunction}
 use Rattle.gradient_bounds.specs.Clear.{slack}
-use Rattle.gradient_bounds.specs.Region.{ball_of, IsClearIn}
+use Rattle.gradient_bounds.specs.Neighbourhood.{ball_of, IsClearIn}
 use Rattle.gradient_bounds.proofs.Rows.{each_of_rows, kept_row_has}
 use Rattle.gradient_bounds.proofs.prepared.Prepared.is_clear_in.Goals as goal
 
 pub returns-then-not-are_clear-clause-found : goal.returns-then-not-are_clear-clause-found
 returns-then-not-are_clear-clause-found g c =
     λ clear.
-    let P = IsClearIn (ball_of c.args.region.now) (slack g.S.Scale.HIGH_BITS) in
+    let P = IsClearIn (ball_of c.args.neighbourhood.now) (slack g.S.Scale.HIGH_BITS) in
     let each : EachFunction c.self.inside.word P = subst (λ w. EachFunction w P) (sym c.self.view_is) clear in
     let row = c.row-item.result in
     let rows : List (Vec FormalPoint) = c.self.inside.rows.items in
@@ -25,7 +25,7 @@ returns-then-not-are_clear-clause-found g c =
 
 pub loop-row-preserved : goal.loop-row-preserved
 loop-row-preserved g c =
-    let P = IsClearIn (ball_of c.args.region.now) (slack g.S.Scale.LOW_BITS) in
+    let P = IsClearIn (ball_of c.args.neighbourhood.now) (slack g.S.Scale.LOW_BITS) in
     let R = λ (row : Vec FormalPoint). All P row.items in
     let here : R c.row-item.result = subst (All P) c.as_slice.ensures.value (c.if-not-are_clear.ensures.clear refl) in
     All-more R c.deref-row-items.result.now c.loop-row.row-index c.row-item.result c.loop-row-test.true c.loop-row.invariant (subst R c.row-item.is here)
@@ -33,7 +33,7 @@ loop-row-preserved g c =
 pub returns-clause-clear : goal.returns-clause-clear
 returns-clause-clear g c =
     λ _.
-    let P = IsClearIn (ball_of c.args.region.now) (slack g.S.Scale.LOW_BITS) in
+    let P = IsClearIn (ball_of c.args.neighbourhood.now) (slack g.S.Scale.LOW_BITS) in
     let rows : List (Vec FormalPoint) = c.self.inside.rows.items in
     let same : c.deref-row-items.result.now ≡ rows = c.deref-row-items.ensures.value in
     let passed : All (λ row. All P row.items) c.deref-row-items.result.now = subst (All (λ row. All P row.items)) (take_all c.loop-row.row-index c.deref-row-items.result.now c.loop-row-test.false) c.loop-row.invariant in

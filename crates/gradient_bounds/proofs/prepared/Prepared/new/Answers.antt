@@ -1,4 +1,4 @@
-use Rattle.std.proofs.Common.{◌≡◌, sym, ap, subst, ◌∙◌, append-nil}
+use Rattle.std.proofs.Common.{sym, ap, subst}
 use Rattle.std.specs.Prelude.{Err}
 use Rattle.edge_words.specs.Word.{IsWord}
 use Rattle.std.proofs.lemmas.Result.{err_from_is_err_and}
@@ -31,18 +31,16 @@ pub invariant_of-result : goal.invariant_of-result
 invariant_of-result g c =
     let w = c.args.word.now in
     let stable : IsStable w = c.is_stable.ensures.0 c.if-not-is_stable.false in
-    let same : c.rotate.result ≡ w = c.rotate.ensures ∙ append-nil w in
-    prepared_from w c.rotate.result c.in_ok-unfolding.unfolding c.in_ok-functions.functions c.in_ok-rows.rows.items same c.in_ok-unfolding.ensures.word c.in_ok-functions.ensures.word
+    prepared_from w c.copied.result c.in_ok-unfolding.unfolding c.in_ok-functions.functions c.in_ok-rows.rows.items c.copied.ensures c.in_ok-unfolding.ensures.word c.in_ok-functions.ensures.word
     (subst IsWord c.unfolding.view_is c.unfolding.invariant.word) stable c.in_ok-rows.ensures
 
 pub returns-clause-stable : goal.returns-clause-stable
 returns-clause-stable g c =
     let w = c.args.word.now in
     let stable : IsStable w = c.is_stable.ensures.0 c.if-not-is_stable.false in
-    let same : c.rotate.result ≡ w = c.rotate.ensures ∙ append-nil w in
-    subst IsStable (sym same) stable
+    subst IsStable (sym c.copied.ensures) stable
 
 pub returns-clause-unstable : goal.returns-clause-unstable
 returns-clause-unstable g c =
     let stable : IsStable c.args.word.now = c.is_stable.ensures.0 c.if-not-is_stable.false in
-    not_refused c.args.word.now c.rotate.result stable
+    not_refused c.args.word.now c.copied.result stable

@@ -1,7 +1,7 @@
 use Rattle.std.proofs.Common.{sym, subst}
 use Rattle.gradient_bounds.specs.Corridor.{EachFunction}
 use Rattle.gradient_bounds.specs.Clear.{slack}
-use Rattle.gradient_bounds.specs.Region.{IsClearIn}
+use Rattle.gradient_bounds.specs.Neighbourhood.{IsClearIn}
 use Rattle.gradient_bounds.proofs.Margins.{slack_positive}
 use Rattle.gradient_bounds.proofs.Boxes.{clear_gives_corridor_lem}
 use Rattle.gradient_bounds.proofs.prepared.Prepared.test_box.Goals as goal

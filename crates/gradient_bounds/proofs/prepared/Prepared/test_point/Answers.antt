@@ -2,7 +2,7 @@ use Rattle.std.proofs.Common.{sym, subst}
 use Rattle.rat_core.specs.Written.{value}
 use Rattle.gradient_bounds.specs.Corridor.{EachFunction}
 use Rattle.gradient_bounds.specs.Clear.{slack}
-use Rattle.gradient_bounds.specs.Region.{IsClearIn}
+use Rattle.gradient_bounds.specs.Neighbourhood.{IsClearIn}
 use Rattle.gradient_bounds.proofs.Margins.{slack_positive, clear_at_point_gives_corridor_lem}
 use Rattle.gradient_bounds.proofs.Boxes.{clear_at_point, clear_in_point}
 use Rattle.gradient_bounds.proofs.prepared.Prepared.test_point.Goals as goal

@@ -4,7 +4,7 @@ use Rattle.std.specs.Ordering.{int_eq}
 use Rattle.std.proofs.lemmas.Bool.Decides.{Decides-int_eq}
 use Rattle.std.proofs.lemmas.Slice.Eq.{slice_eq-Decides}
 use Rattle.exp_sums.specs.declared.direction.Dir.{Dir}
-use Rattle.unfolding.proofs.Turned.{same_dir}
+use Rattle.unfolding.proofs.MirroredDirs.{same_dir}
 use Rattle.unfolding.proofs.triangle.Triangle.is_translate_of.Goals as goal
 
 both : {P Q : Type 0} (a b : Bool) → Decides a P → Decides b Q → Decides (a && b) (P × Q)

@@ -11,4 +11,5 @@ pub returns-clause-light : goal.returns-clause-light
 returns-clause-light c = centre_light c.args.self.now c.args.k c.index.result.now (triangle_is c) c.requires
 
 pub returns-clause-within : goal.returns-clause-within
-returns-clause-within c = centre_within c.args.self.now c.args.k c.index.result.now (triangle_is c) (subst IsWord c.self.view_is c.self.invariant.word) c.requires
+returns-clause-within c = centre_within c.args.self.now c.args.k c.index.result.now (triangle_is c)
+    (subst IsWord c.self.view_is c.self.invariant.word) c.requires

@@ -7,7 +7,8 @@ use Rattle.unfolding.proofs.KeptTriangles.{kept_triangle, corner-at}
 use Rattle.unfolding.proofs.unfolding.Unfolding.corner.Goals as goal
 use Rattle.unfolding.proofs.unfolding.Unfolding.corner.Goals.{After-index-index-corner}
 
-corner_is : (c : After-index-index-corner) → slice_index_or c.index.result.now.corners (c.args.corner - 1) c.index-index-corner.result ≡ corner_of c.args.self.now c.args.k c.args.corner
+corner_is : (c : After-index-index-corner)
+    → slice_index_or c.index.result.now.corners (c.args.corner - 1) c.index-index-corner.result ≡ corner_of c.args.self.now c.args.k c.args.corner
 corner_is c =
     corner-at c.args.self.now c.args.k c.args.corner c.index.result.now _
     (kept_triangle _ c.args.self.now _ c.args.k c.index.result.now c.self.view_is c.self.invariant c.requires.within c.index.ensures)

@@ -1,4 +1,4 @@
-use Rattle.std.proofs.Common.{sym, subst, ◌∙◌}
+use Rattle.std.proofs.Common.{sym, subst}
 use Rattle.edge_words.specs.Word.{IsWord}
 use Rattle.exp_sums.specs.FormalPoint.{zero_point}
 use Rattle.unfolding.specs.Triangle.{mirrors}
@@ -7,5 +7,7 @@ use Rattle.unfolding.proofs.unfolding.Unfolding.of.Goals as goal
 
 pub returns-clause-stable : goal.returns-clause-stable
 returns-clause-stable c =
-    let word : IsWord c.in_ok-letters.letters.items = subst IsWord (sym (c.in_ok-letters.ensures.items ∙ c.letters.ensures.all)) c.letters.ensures.is_word in
-    (stable_from_shift _ word.letters word.even_length.even, λ stable. (mirrors c.in_ok-letters.letters.items zero_point, shift_from_stable _ word.letters word.even_length.even stable))
+    let word : IsWord c.copied.result = subst IsWord (sym c.copied.ensures) c.letters.ensures.is_word in (
+      stable_from_shift _ word.letters word.even_length.even,
+      λ stable. (mirrors c.copied.result zero_point, shift_from_stable _ word.letters word.even_length.even stable),
+    )

@@ -1,5 +1,0 @@
-use Rattle.exp_sums.proofs.SamePoint.{coefficient-conj}
-use Rattle.exp_sums.proofs.laws.conjugates_turn_directions.Goals as goal
-
-pub returns : goal.returns
-returns c = coefficient-conj

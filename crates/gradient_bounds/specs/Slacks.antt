@@ -1,0 +1,21 @@
+-- The slacks with which claims on boxes are judged: how far beyond its drift a function has to reach, for each unit of its weight and one more.
+-- All are this program's own.
+
+use Rattle.rat_core.specs.Fraction.{ℚ}
+use Rattle.gradient_bounds.specs.Clear.{slack}
+
+-- one slack for each way of judging a box
+pub record Slacks : Type 0 where
+  pub gradient : ℚ
+
+-- a claim that is passed holds with these
+abbrev pub sound : Slacks
+sound = record { gradient = slack 60 }
+
+-- a claim that holds with these is never refused
+abbrev pub sure : Slacks
+sure = record { gradient = slack 40 }
+
+-- a word that is clear with these is never passed over by the coverer
+abbrev pub findable : Slacks
+findable = record { gradient = slack 28 }

@@ -1,0 +1,50 @@
+//! Neighbourhoods in the angle plane: points and boxes.
+ghost use Rattle.std.specs.Prelude.{◌≡◌, ◌^◌, ◌≤◌};
+ghost use Rattle.rat_core.specs.Fraction.{whole, ◌+ℚ◌, ◌<ℚ◌};
+ghost use Rattle.rat_core.specs.Written.{value};
+ghost use Rattle.rational_polygon.specs.Square.{centre, half_side};
+ghost use Rattle.gradient_bounds.specs.Neighbourhood.{IsNeighbourhood, ball_of};
+
+use crate::angles::{Angles, over_one_denominator};
+use rat_core::Frac;
+use rational_polygon::GridBox;
+
+/// The points whose coordinates differ from those of the centre by at most `radius / centre.den`: a box, or a point
+/// where the radius is 0.
+#[derive(Clone, Copy, Debug)]
+pub struct Neighbourhood {
+    pub centre: Angles,
+    pub radius: i128,
+}
+
+/// The triangle (x, y) alone.
+pub fn point(x: Frac, y: Frac) -> Neighbourhood
+    requires first { whole 0 <ℚ value x }
+    requires second { whole 0 <ℚ value y }
+    requires third { value x +ℚ value y <ℚ whole 1 }
+    requires x_denominator { x.den ≤ 2 ^ 20 }
+    requires y_denominator { y.den ≤ 2 ^ 20 }
+    ensures neighbourhood { IsNeighbourhood result }
+    ensures ball { ball_of result ≡ record { x = value x; y = value y; radius = whole 0 } }
+{
+    Neighbourhood {
+        centre: over_one_denominator(x, y),
+        radius: 0,
+    }
+}
+
+/// The box. Half its side is one part of the centre's denominator.
+pub fn square(place: GridBox) -> Neighbourhood
+    ensures neighbourhood { IsNeighbourhood result }
+    ensures ball { ball_of result ≡ record { x = (centre place).x; y = (centre place).y; radius = half_side place } }
+{
+    let (x, y) = place.centre();
+    Neighbourhood {
+        centre: Angles {
+            first: x.num(),
+            second: y.num(),
+            den: x.den(),
+        },
+        radius: 1,
+    }
+}

@@ -1,0 +1,11 @@
+pub mod Numbers
+pub mod Lines
+pub mod TwoFields
+pub mod FrontLines
+pub mod NamedNumbers
+pub mod Forms
+pub mod Offending
+pub mod Taken
+pub mod Parts
+pub mod Steps
+pub mod Laws
