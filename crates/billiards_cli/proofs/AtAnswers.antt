@@ -1,12 +1,13 @@
 -- The right answers of `at`.
-use Rattle.std.proofs.Common.{◌≡◌, ℕ, List, [], Option, Some, None, Err, refl, sym, subst, ◌∙◌, inl, inr}
+use Rattle.std.proofs.Common.{◌≡◌, ℕ, List, [], Option, Some, None, refl, sym, subst, ◌∙◌, inl, inr}
 use Rattle.edge_words.specs.Reading.{Spells}
 use Rattle.edge_words.specs.Stable.{IsStable}
 use Rattle.edge_words.proofs.Digits.{digits_of-injective}
-use Rattle.gradient_bounds.specs.Clear.{IsClearAtPoint, slack}
-use Rattle.covering_file.specs.Forms.{ReadsWord}
-use Rattle.covering_file.specs.declared.reason.Reason.{Reason}
-use Rattle.covering_file.specs.declared.reason.Reason.TheVariants.{NotAWord, UnstableWord}
+use Rattle.gradient_bounds.specs.Clear.{IsClearAtPoint}
+use Rattle.gradient_bounds.specs.Slacks.{sure}
+use Rattle.covering_file.specs.CornerForms.{RefusesWord}
+use Rattle.line_grammar.specs.declared.reason.Reason.{Reason}
+use Rattle.line_grammar.specs.declared.reason.Reason.TheVariants.{NotAWord, UnstableWord}
 use Rattle.billiards_cli.specs.Arguments.{Angles}
 use Rattle.billiards_cli.specs.Requests.{command_of}
 use Rattle.billiards_cli.specs.Services.{IsAnswer}
@@ -20,7 +21,7 @@ pub one_spelling : (argument w v : List ℕ) → Spells argument w → Spells ar
 one_spelling argument w v first second = digits_of-injective v w (sym second.digits ∙ first.digits)
 
 -- an argument that spells a stable word is not refused
-not_refused : (argument w : List ℕ) (reason : Reason) → Spells argument w → IsStable w → ReadsWord argument (Err reason) → ⊥
+not_refused : (argument w : List ℕ) (reason : Reason) → Spells argument w → IsStable w → RefusesWord argument reason → ⊥
 not_refused argument w NotAWord spells stable none = none (w, spells)
 not_refused argument w UnstableWord spells stable unstable =
     unstable.2 (subst (λ (x : List ℕ). IsStable x) (one_spelling argument unstable.0 w unstable.1 spells) stable)
@@ -32,7 +33,7 @@ at_answer_is_due argument triangle Done text answer =
     record { done = λ v spells clear. inl refl; refused = λ none. absurd (none (answer.word, answer.spells, answer.corridor.stable)) }
 at_answer_is_due argument triangle NotShown text answer =
     record {
-      done = λ v spells clear. absurd (answer.not_clear (subst (λ (x : List ℕ). AtTriangle triangle (λ a b. IsClearAtPoint x a b (slack 40)))
+      done = λ v spells clear. absurd (answer.not_clear (subst (λ (x : List ℕ). AtTriangle triangle (λ a b. IsClearAtPoint x a b sure.gradient))
           (one_spelling argument answer.word v answer.spells spells) clear));
       refused = λ none. absurd (none (answer.word, answer.spells, answer.stable));
     }
@@ -46,6 +47,6 @@ at_answer_is_due argument triangle status text answer = absurd answer
 pub at_answer : (argument : List ℕ) (triangle : Angles) (left : Option (List ℕ)) (status : Status) (text : List ℕ)
     → IsAtAnswer argument triangle status text → IsAnswer (command_of (request.At argument triangle)) left left status text
 at_answer argument triangle None status text right =
-    record { input = []; may_be = tt; right = right; due = at_answer_is_due argument triangle status text right; end = tt }
+    record { input = []; may_be = tt; right = right; due = at_answer_is_due argument triangle status text right; read = tt }
 at_answer argument triangle (Some input) status text right =
-    record { input = input; may_be = refl; right = right; due = at_answer_is_due argument triangle status text right; end = tt }
+    record { input = input; may_be = refl; right = right; due = at_answer_is_due argument triangle status text right; read = tt }

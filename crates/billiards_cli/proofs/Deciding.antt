@@ -19,14 +19,14 @@ answer_is_due command left left' status text answer =
 
 decided : (command : Command) (before after : Streams) (status : Status) → Serves command before after status → MeetNoFault before after
     → IsDecided command before.left status
-decided command before after Done serves stood = answer_is_due command before.left after.left Done serves.text.text serves.text.answer
-decided command before after NotShown serves stood = answer_is_due command before.left after.left NotShown serves.text.text serves.text.answer
-decided command before after Malformed serves stood = answer_is_due command before.left after.left Malformed serves.text.text serves.text.answer
-decided command before after Full serves stood = answer_is_due command before.left after.left Full serves.text.text serves.text.answer
-decided command before after OutOfMemory serves stood = answer_is_due command before.left after.left OutOfMemory [] serves.text.answer
+decided command before after Done serves stood = answer_is_due command before.left after.left Done serves.leaves.text serves.leaves.answer
+decided command before after NotShown serves stood = answer_is_due command before.left after.left NotShown serves.leaves.text serves.leaves.answer
+decided command before after Malformed serves stood = answer_is_due command before.left after.left Malformed serves.leaves.text serves.leaves.answer
+decided command before after Full serves stood = answer_is_due command before.left after.left Full serves.leaves.text serves.leaves.answer
+decided command before after OutOfMemory serves stood = answer_is_due command before.left after.left OutOfMemory [] serves.leaves.answer
 decided command before after ReadFault serves stood = absurd (not_risen before.source_faults after.source_faults stood.source serves.counts.0)
 decided command before after WriteFault serves stood = absurd (not_risen before.sink_faults after.sink_faults stood.sink serves.counts.1)
-decided command before after Usage serves stood = absurd serves.text
+decided command before after Usage serves stood = absurd serves.leaves
 
 -- what is asked for is decided
 pub decided_if_asked : (asked : Option Request) (request : Request) (before after : Streams) (status : Status)
@@ -37,4 +37,4 @@ decided_if_asked asked request before after status is serves stood = rw is (deci
 -- that the arguments ask for nothing is no answer of a command
 pub not_usage : (command : Command) (before after : Streams) (status : Status) → Serves command before after status → status ≢ Usage
 not_usage command before after status serves is =
-    let serves_usage : Serves command before after Usage = subst (λ (s : Status). Serves command before after s) is serves in serves_usage.text
+    let serves_usage : Serves command before after Usage = subst (λ (s : Status). Serves command before after s) is serves in serves_usage.leaves

@@ -4,7 +4,7 @@ pub mod Headlines
 pub mod Numbers
 pub mod Triangles
 pub mod WordArguments
-pub mod WordReading
+pub mod Inputs
 pub mod WordAnswers
 pub mod CheckAnswers
 pub mod AtAnswers

@@ -21,15 +21,15 @@ served_after : {T E : Type 0} (command : Command) (before after : Streams) (stat
     → Writes before.written after.written result text → HasCause before.sink_faults after.sink_faults result
     → Serves command before after (status_after status result)
 served_after command before after Done text (Ok value) is answer stood writes cause =
-    record { text = record { text = text; answer = answer; written = writes }; counts = (stood, cause.kept) }
+    record { leaves = record { text = text; answer = answer; written = writes }; counts = (stood, cause.kept) }
 served_after command before after NotShown text (Ok value) is answer stood writes cause =
-    record { text = record { text = text; answer = answer; written = writes }; counts = (stood, cause.kept) }
+    record { leaves = record { text = text; answer = answer; written = writes }; counts = (stood, cause.kept) }
 served_after command before after Malformed text (Ok value) is answer stood writes cause =
-    record { text = record { text = text; answer = answer; written = writes }; counts = (stood, cause.kept) }
+    record { leaves = record { text = text; answer = answer; written = writes }; counts = (stood, cause.kept) }
 served_after command before after Full text (Ok value) is answer stood writes cause =
-    record { text = record { text = text; answer = answer; written = writes }; counts = (stood, cause.kept) }
+    record { leaves = record { text = text; answer = answer; written = writes }; counts = (stood, cause.kept) }
 served_after command before after status text (Err error) is answer stood writes cause =
-    record { text = record { status = status; text = text; answer = answer; begun = writes }; counts = (stood, cause.failed) }
+    record { leaves = record { status = status; text = text; answer = answer; begun = writes }; counts = (stood, cause.failed) }
 served_after command before after Usage text (Ok value) is answer stood writes cause = absurd is
 served_after command before after ReadFault text (Ok value) is answer stood writes cause = absurd is
 served_after command before after WriteFault text (Ok value) is answer stood writes cause = absurd is

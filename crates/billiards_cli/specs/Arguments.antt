@@ -4,11 +4,12 @@ use Rattle.std.specs.declared.option.Option.{Option}
 use Rattle.std.specs.declared.result.Result.{Result}
 use Rattle.std.specs.Str.{bytes_eq}
 use Rattle.std.specs.Str.Parse.{digits_value}
-use Rattle.edge_words.specs.Reading.{Spells}
-use Rattle.covering_file.specs.HeaderOffence.{SpellsWord}
-use Rattle.covering_file.specs.declared.reason.Reason.{Reason}
-use Rattle.covering_file.specs.declared.reason.Reason.TheVariants.{NotAWord}
-use Rattle.billiards_cli.specs.declared.triangle.TheConstants.{MAX_NUMBER}
+use Rattle.edge_words.specs.Reading.{Spells, digits_of}
+use Rattle.edge_words.specs.Word.{IsWord}
+use Rattle.line_grammar.specs.Form.{LineForm}
+use Rattle.line_grammar.specs.declared.reason.Reason.{Reason}
+use Rattle.line_grammar.specs.declared.reason.Reason.TheVariants.{NotAWord}
+use Rattle.rational_polygon.specs.declared.TheConstants.{MAX_GRID}
 
 -- the number whose canonical decimal text this is, where it is at most the bound
 abbrev pub number_up_to : ℕ → List ℕ → Option ℕ
@@ -33,10 +34,13 @@ angles_of (Some p) (Some q) None = None
 
 -- the triangle that three texts write
 abbrev pub triangle_of : List ℕ → List ℕ → List ℕ → Option Angles
-triangle_of p q d = angles_of (number_up_to MAX_NUMBER p) (number_up_to MAX_NUMBER q) (number_up_to MAX_NUMBER d)
+triangle_of p q d = angles_of (number_up_to MAX_GRID p) (number_up_to MAX_GRID q) (number_up_to MAX_GRID d)
 
--- bytes are read as a word, be it stable or not
-abbrev pub ReadsAnyWord : List ℕ → Result (List ℕ) Reason → Type 0
-ReadsAnyWord bytes (Ok w) = Spells bytes w
-ReadsAnyWord bytes (Err NotAWord) = ¬ (SpellsWord bytes)
-ReadsAnyWord bytes (Err reason) = ⊥
+-- bytes that are no word
+abbrev pub RefusesAnyWord : List ℕ → Reason → Type 0
+RefusesAnyWord bytes NotAWord = ¬ ((w : List ℕ) × Spells bytes w)
+RefusesAnyWord bytes reason = ⊥
+
+-- a word, be it stable or not
+abbrev pub any_word : LineForm (List ℕ)
+any_word = record { line_of = digits_of; Says = IsWord; Refuses = RefusesAnyWord }

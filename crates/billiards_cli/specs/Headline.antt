@@ -9,7 +9,7 @@
 use Rattle.std.specs.Prelude.{◌≡◌, ℕ, List, [], ◌∷◌, Some, codes}
 use Rattle.std.specs.declared.option.Option.{Option}
 use Rattle.std.specs.Io.KnownBytes.{IsAtEnd}
-use Rattle.billiards_cli.specs.declared.commands.check.TheConstants.{MAX_NODES}
+use Rattle.covering_file.specs.declared.TheConstants.{MAX_NODES}
 use Rattle.billiards_cli.specs.declared.status.Status.{Status}
 use Rattle.billiards_cli.specs.declared.status.Status.TheVariants.{Done}
 -- what stands next in some bytes: a line of at most 80 bytes, or an end

@@ -1,10 +1,10 @@
 -- The texts of refusals. Each line ends with a newline.
-use Rattle.std.specs.Prelude.{◌≡◌, ℕ, List, [], ◌∷◌, codes, Err}
-use Rattle.std.specs.declared.result.Result.{Result}
+use Rattle.std.specs.Prelude.{◌≡◌, ℕ, List, [], ◌∷◌, codes}
+use Rattle.line_grammar.specs.Form.{LineForm}
 use Rattle.std.specs.List.{concat}
 use Rattle.std.specs.Fmt.{decimal}
-use Rattle.covering_file.specs.declared.reason.Reason.{Reason}
-use Rattle.covering_file.specs.Offence.{number_of}
+use Rattle.line_grammar.specs.declared.reason.Reason.{Reason}
+use Rattle.line_grammar.specs.Offence.{number_of}
 
 abbrev pub newline : List ℕ
 newline = 10 ∷ []
@@ -24,8 +24,8 @@ pub record RefusesLine (IsRefused : ℕ → Reason → Type 0) (text : List ℕ)
   pub refused : IsRefused line reason
   pub named : text ≡ refused_text line reason
 
--- the text names the reason for which the argument cannot be read so
-pub record RefusesArgument {V : Type 0} (reads : List ℕ → Result V Reason → Type 0) (argument text : List ℕ) : Type 0 where
+-- the text names the reason for which the argument is refused by its form
+pub record RefusesArgument {V : Type 0} (form : LineForm V) (argument text : List ℕ) : Type 0 where
   pub reason : Reason
-  pub refused : reads argument (Err reason)
+  pub refused : form.Refuses argument reason
   pub named : text ≡ argument_text reason

@@ -1,9 +1,12 @@
 -- What the arguments of a command line ask for.
-use Rattle.std.specs.Prelude.{ℕ, List, [], ◌∷◌, None, true, false, codes, if◌then◌else◌}
+use Rattle.std.specs.Prelude.{ℕ, List, [], ◌∷◌, None, false, codes, if◌then◌else◌}
 use Rattle.std.specs.declared.option.Option.{Option}
 use Rattle.std.specs.Str.{bytes_eq}
-use Rattle.billiards_cli.specs.Command.{Command}
-use Rattle.billiards_cli.specs.Commands.Word.{word_request, ends_word, IsWordAnswer, IsWordDue}
+use Rattle.covering_file.specs.CheckClaims.{check_claims}
+use Rattle.covering_file.specs.FilePart.{file_grammar}
+use Rattle.covering_file.specs.declared.TheConstants.{MAX_NODES}
+use Rattle.billiards_cli.specs.Command.{Command, Nothing, By}
+use Rattle.billiards_cli.specs.Commands.Word.{word_request, word_input, ends_word, IsWordAnswer, IsWordDue}
 use Rattle.billiards_cli.specs.Commands.Check.{check_request, ends_check, IsCheckAnswer, IsCheckDue}
 use Rattle.billiards_cli.specs.Commands.At.{at_request, IsAtAnswer, IsAtDue}
 use Rattle.billiards_cli.specs.declared.request.Request.{Request}
@@ -24,19 +27,19 @@ request_of (name ∷ arguments) = request_named name arguments
 -- what a request is to do
 abbrev pub command_of : Request → Command
 command_of Word = record {
-  reads = true;
+  reads = By word_input.grammar;
   ends = ends_word;
   IsRight = IsWordAnswer;
   IsDue = IsWordDue;
 }
 command_of Check = record {
-  reads = true;
+  reads = By (file_grammar check_claims MAX_NODES);
   ends = ends_check;
   IsRight = IsCheckAnswer;
   IsDue = IsCheckDue;
 }
 command_of (At word triangle) = record {
-  reads = false;
+  reads = Nothing;
   ends = λ status. false;
   IsRight = λ input. IsAtAnswer word triangle;
   IsDue = λ input. IsAtDue word triangle;

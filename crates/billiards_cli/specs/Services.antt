@@ -1,26 +1,57 @@
 -- What a run of a command does to its source and its sink.
-use Rattle.std.specs.Prelude.{◌≡◌, ℕ, List, []}
-use Rattle.std.specs.Bool.{OnTrue}
+use Rattle.std.specs.Prelude.{◌≡◌, ◌⊎◌, ℕ, ◌+◌, ◌≤◌, Bool, true, false, List, [], ◌++◌, length, ⊤}
 use Rattle.std.specs.declared.option.Option.{Option}
 use Rattle.std.specs.declared.result.Result.{Result}
 use Rattle.std.specs.declared.result.Result.TheVariants.{Ok, Err}
-use Rattle.std.specs.Io.KnownBytes.{Appends, IsAtEnd}
+use Rattle.std.specs.Io.KnownBytes.{Appends, Consumes, IsAtEnd}
 use Rattle.mcb_ends.specs.Bytes.{AppendsPrefix}
 use Rattle.mcb_ends.specs.Causes.{Rose}
-use Rattle.covering_file.specs.Input.{MayBe}
-use Rattle.billiards_cli.specs.Command.{Command}
+use Rattle.line_grammar.specs.Input.{MayBe}
+use Rattle.line_grammar.specs.Offence.{Grammar}
+use Rattle.line_grammar.specs.Text.{text_of}
+use Rattle.line_grammar.specs.declared.reason.Reason.{Reason}
+use Rattle.billiards_cli.specs.Command.{Reading, Nothing, By, Command}
+use Rattle.billiards_cli.specs.Refusals.{refused_text}
 use Rattle.billiards_cli.specs.Streams.{Streams}
 use Rattle.billiards_cli.specs.declared.status.Status.{Status}
 use Rattle.billiards_cli.specs.declared.status.Status.TheVariants.{Done, NotShown, Usage, Malformed, ReadFault, WriteFault, OutOfMemory, Full}
 
+-- ---- how much was read
+
+-- Reading stopped at a due line that is reached, which has this number: at most one buffer of 4,096 bytes after the lines before it was read.
+pub record StopsAtLine (g : Grammar) (line : ℕ) (left left' : Option (List ℕ)) : Type 0 where
+  pub due : g.Due
+  pub reached : g.IsReached due
+  pub number : line ≡ length (g.lines_before due) + 1
+  pub more : List ℕ
+  pub one_buffer : length more ≤ 4096
+  pub read : Consumes left left' (text_of (g.lines_before due) ++ more)
+
+-- the line that a refusal names; a text that is empty names none
+abbrev pub MayName : List ℕ → ℕ → Type 0
+MayName text line = (text ≡ []) ⊎ ((reason : Reason) × (text ≡ refused_text line reason))
+
+-- an answer was read for: to the end of the input, or as far as the line that it names
+abbrev pub ReadsFor : Reading → Bool → List ℕ → Option (List ℕ) → Option (List ℕ) → Type 0
+ReadsFor Nothing ends text left left' = ⊤
+ReadsFor (By g) true text left left' = IsAtEnd left'
+ReadsFor (By g) false text left left' = (line : ℕ) × MayName text line × StopsAtLine g line left left'
+
+-- a read failed: at some due line
+abbrev pub FailsIn : Reading → Option (List ℕ) → Option (List ℕ) → Type 0
+FailsIn Nothing left left' = ⊥
+FailsIn (By g) left left' = (line : ℕ) × StopsAtLine g line left left'
+
+-- ---- what was written
+
 -- A right answer to the input, or to some input where the source does not tell its own: the status is one that the input may have,
--- and where it wants the end of the input, that was read.
+-- and no more was read than it takes.
 pub record IsAnswer (command : Command) (left left' : Option (List ℕ)) (status : Status) (text : List ℕ) : Type 0 where
   pub input : List ℕ
   pub may_be : MayBe left input
   pub right : command.IsRight input status text
   pub due : command.IsDue input status
-  pub end : OnTrue (command.ends status) (IsAtEnd left')
+  pub read : ReadsFor command.reads (command.ends status) text left left'
 
 -- the whole text of a right answer was written
 pub record WritesAnswer (command : Command) (before after : Streams) (status : Status) : Type 0 where
@@ -40,16 +71,23 @@ pub record WantsMemory (command : Command) (before after : Streams) : Type 0 whe
   pub answer : IsAnswer command before.left after.left OutOfMemory []
   pub unwritten : after.written ≡ before.written
 
--- what was written, by the status; that the arguments ask for nothing is no answer of a command
-abbrev pub TextAfter : Command → Streams → Streams → Status → Type 0
-TextAfter command before after Done = WritesAnswer command before after Done
-TextAfter command before after NotShown = WritesAnswer command before after NotShown
-TextAfter command before after Malformed = WritesAnswer command before after Malformed
-TextAfter command before after Full = WritesAnswer command before after Full
-TextAfter command before after WriteFault = BeginsAnswer command before after
-TextAfter command before after OutOfMemory = WantsMemory command before after
-TextAfter command before after ReadFault = after.written ≡ before.written
-TextAfter command before after Usage = ⊥
+-- a read failed, and nothing was written
+pub record FailsToRead (command : Command) (before after : Streams) : Type 0 where
+  pub stops : FailsIn command.reads before.left after.left
+  pub unwritten : after.written ≡ before.written
+
+-- ---- a run
+
+-- what was read and written, by the status; that the arguments ask for nothing is no answer of a command
+abbrev pub Leaves : Command → Streams → Streams → Status → Type 0
+Leaves command before after Done = WritesAnswer command before after Done
+Leaves command before after NotShown = WritesAnswer command before after NotShown
+Leaves command before after Malformed = WritesAnswer command before after Malformed
+Leaves command before after Full = WritesAnswer command before after Full
+Leaves command before after WriteFault = BeginsAnswer command before after
+Leaves command before after OutOfMemory = WantsMemory command before after
+Leaves command before after ReadFault = FailsToRead command before after
+Leaves command before after Usage = ⊥
 
 -- which count of faults rose, by the status; the other stands
 abbrev pub CountsAfter : Streams → Streams → Status → Type 0
@@ -59,7 +97,7 @@ CountsAfter before after status = (after.source_faults ≡ before.source_faults)
 
 -- what a run of a command does, by its status
 pub record Serves (command : Command) (before after : Streams) (status : Status) : Type 0 where
-  pub text : TextAfter command before after status
+  pub leaves : Leaves command before after status
   pub counts : CountsAfter before after status
 
 -- the status is one that the command may have on the input where nothing outside fails

@@ -1,6 +1,7 @@
 ghost use Rattle.std.specs.Prelude.{◌≡◌, ◌↔◌, ◌⊎◌, None, IfSome};
 ghost use Rattle.std.specs.Bool.{OnFalse};
 ghost use Rattle.billiards_cli.specs.Headline.{Headline};
+ghost use Rattle.billiards_cli.specs.Command.{reads_input};
 ghost use Rattle.billiards_cli.specs.Requests.{request_of, command_of};
 ghost use Rattle.billiards_cli.specs.Services.{Serves, IsDecided};
 ghost use Rattle.billiards_cli.specs.Streams.{MeetNoFault};
@@ -20,7 +21,7 @@ pub fn run<S: Source, K: Sink>(alloc: Global, arguments: &Args, src: &mut S, out
     ensures unwritten { (result ≡ Status.ReadFault) ⊎ (result ≡ Status.OutOfMemory) → out.new ≡ out.old }
 
     // A command that reads nothing leaves the source as it was.
-    ensures idle { IfSome (request_of arguments.now) (λ request. OnFalse (command_of request).reads (src.new ≡ src.old)) }
+    ensures idle { IfSome (request_of arguments.now) (λ request. OnFalse (reads_input (command_of request).reads) (src.new ≡ src.old)) }
     ensures room { K.room out.new ≡ K.room out.old }
 
     // What was read and written, and which count of faults rose, by the status.

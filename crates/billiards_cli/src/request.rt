@@ -1,6 +1,7 @@
 //! What the arguments of a command line ask for: one row, one variant and one arm a command.
 ghost use Rattle.std.specs.Prelude.{◌≡◌, ◌⊎◌};
 ghost use Rattle.std.specs.Bool.{OnFalse};
+ghost use Rattle.billiards_cli.specs.Command.{reads_input};
 ghost use Rattle.billiards_cli.specs.Requests.{request_of, command_of};
 ghost use Rattle.billiards_cli.specs.Services.{Serves};
 
@@ -48,7 +49,7 @@ pub(crate) fn obey<S: Source, K: Sink>(
     src: &mut S,
     out: &mut K,
 ) -> Status
-    ensures idle { OnFalse (command_of request.now).reads (src.new ≡ src.old) }
+    ensures idle { OnFalse (reads_input (command_of request.now).reads) (src.new ≡ src.old) }
     ensures unwritten { (result ≡ Status.ReadFault) ⊎ (result ≡ Status.OutOfMemory) → out.new ≡ out.old }
     ensures room { K.room out.new ≡ K.room out.old }
     ensures serves { Serves (command_of request.now)

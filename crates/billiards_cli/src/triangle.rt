@@ -6,10 +6,8 @@ ghost use Rattle.billiards_cli.specs.Arguments.{triangle_of};
 
 use crate::number::number;
 use rat_core::Frac;
+use rational_polygon::MAX_GRID;
 use std::marker::Model;
-
-/// The greatest number of a triangle on the command line.
-pub(crate) const MAX_NUMBER: u32 = 1_048_576;
 
 /// The triangle of a command line, with the angles p / d and q / d, in half turns, at corners 1 and 2.
 #[derive(Clone, Copy)]
@@ -22,13 +20,13 @@ pub(crate) struct Triangle {
 impl Model for Triangle {
     ghost use Rattle.std.specs.Prelude.{◌≤◌, IsTrue};
     ghost use Rattle.billiards_cli.specs.Arguments.{Angles, are_angles};
-    ghost use Rattle.billiards_cli.specs.declared.triangle.TheConstants.{MAX_NUMBER};
+    ghost use Rattle.rational_polygon.specs.declared.TheConstants.{MAX_GRID};
 
     ghost Value = { Angles };
 
     ghost view = { λ t. record { p = t.p; q = t.q; d = t.d } };
 
-    ghost invariant = { λ t. IsTrue (are_angles (record { p = t.p; q = t.q; d = t.d })) × (t.d ≤ MAX_NUMBER) };
+    ghost invariant = { λ t. IsTrue (are_angles (record { p = t.p; q = t.q; d = t.d })) × (t.d ≤ MAX_GRID) };
 
     ghost inverse = { λ a. record { p = a.p; q = a.q; d = a.d } };
 }
@@ -38,9 +36,9 @@ impl Triangle {
     pub(crate) fn read(p: &[u8], q: &[u8], d: &[u8]) -> Option<Triangle>
         ensures { result ≡ triangle_of p.now q.now d.now }
     {
-        let p = number(p, MAX_NUMBER)?;
-        let q = number(q, MAX_NUMBER)?;
-        let d = number(d, MAX_NUMBER)?;
+        let p = number(p, MAX_GRID)?;
+        let q = number(q, MAX_GRID)?;
+        let d = number(d, MAX_GRID)?;
         if p >= 1 && q >= 1 && p + q < d {
             Some(Triangle { p, q, d })
         } else {

@@ -1,14 +1,12 @@
-ghost use Rattle.covering_file.specs.Forms.{ReadsWord};
-ghost use Rattle.billiards_cli.specs.Arguments.{ReadsAnyWord};
 ghost use Rattle.std.specs.Prelude.{◌≡◌};
+ghost use Rattle.line_grammar.specs.Form.{ReadsAs};
+ghost use Rattle.covering_file.specs.CornerForms.{word_form};
+ghost use Rattle.billiards_cli.specs.Arguments.{any_word};
 
-use covering_file::Reason;
-use edge_words::Word;
+use edge_words::{MAX_LETTERS, Word};
+use line_grammar::Reason;
 use std::alloc::Global;
 use std::marker::Model;
-
-// The longest word.
-const MAX_LETTERS: usize = 64;
 
 /// An argument that is to be a word.
 #[derive(Drop)]
@@ -33,7 +31,7 @@ impl<'a> WordArgument<'a> {
 
     /// Reads the word, be it stable or not. It takes no memory.
     pub(crate) fn read(&self, alloc: Global) -> Result<Word, Reason>
-        ensures { ReadsAnyWord self.now result }
+        ensures { ReadsAs any_word self.now result }
     {
         if self.bytes.len() > MAX_LETTERS {
             return Err(Reason::NotAWord);
@@ -46,7 +44,7 @@ impl<'a> WordArgument<'a> {
 
     /// Reads the word, which has to be stable. It takes no memory.
     pub(crate) fn read_stable(&self, alloc: Global) -> Result<Word, Reason>
-        ensures { ReadsWord self.now result }
+        ensures { ReadsAs word_form self.now result }
     {
         match self.read(alloc) {
             Ok(word) => {

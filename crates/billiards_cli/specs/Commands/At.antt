@@ -6,8 +6,9 @@ use Rattle.edge_words.specs.Reading.{Spells}
 use Rattle.edge_words.specs.Stable.{IsStable}
 use Rattle.rat_core.specs.Fraction.{ℚ, ◌÷◌}
 use Rattle.gradient_bounds.specs.Corridor.{HasCorridor}
-use Rattle.gradient_bounds.specs.Clear.{IsClearAtPoint, slack}
-use Rattle.covering_file.specs.Forms.{ReadsWord}
+use Rattle.gradient_bounds.specs.Clear.{IsClearAtPoint}
+use Rattle.gradient_bounds.specs.Slacks.{sure}
+use Rattle.covering_file.specs.CornerForms.{word_form}
 use Rattle.billiards_cli.specs.Arguments.{Angles, triangle_of}
 use Rattle.billiards_cli.specs.Refusals.{RefusesArgument}
 use Rattle.billiards_cli.specs.declared.request.Request.{Request}
@@ -42,7 +43,7 @@ pub record ShowsNothing (argument : List ℕ) (triangle : Angles) (text : List �
   pub word : List ℕ
   pub spells : Spells argument word
   pub stable : IsStable word
-  pub not_clear : ¬ (AtTriangle triangle (λ x y. IsClearAtPoint word x y (slack 40)))
+  pub not_clear : ¬ (AtTriangle triangle (λ x y. IsClearAtPoint word x y sure.gradient))
   pub text_is : text ≡ not_shown_text
 
 pub record AtWantsMemory (argument text : List ℕ) : Type 0 where
@@ -55,11 +56,11 @@ pub record AtWantsMemory (argument text : List ℕ) : Type 0 where
 abbrev pub IsAtAnswer : List ℕ → Angles → Status → List ℕ → Type 0
 IsAtAnswer argument triangle Done text = ShowsOpen argument triangle text
 IsAtAnswer argument triangle NotShown text = ShowsNothing argument triangle text
-IsAtAnswer argument triangle Malformed text = RefusesArgument ReadsWord argument text
+IsAtAnswer argument triangle Malformed text = RefusesArgument word_form argument text
 IsAtAnswer argument triangle OutOfMemory text = AtWantsMemory argument text
 IsAtAnswer argument triangle status text = ⊥
 
 -- done where the word is clear with the wider slack, unless memory is wanting; what is no stable word is refused
 pub record IsAtDue (argument : List ℕ) (triangle : Angles) (status : Status) : Type 0 where
-  pub done : (w : List ℕ) → Spells argument w → AtTriangle triangle (λ x y. IsClearAtPoint w x y (slack 40)) → (status ≡ Done) ⊎ (status ≡ OutOfMemory)
+  pub done : (w : List ℕ) → Spells argument w → AtTriangle triangle (λ x y. IsClearAtPoint w x y sure.gradient) → (status ≡ Done) ⊎ (status ≡ OutOfMemory)
   pub refused : ¬ ((w : List ℕ) × Spells argument w × IsStable w) → status ≡ Malformed

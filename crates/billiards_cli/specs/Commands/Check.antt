@@ -3,14 +3,14 @@ use Rattle.std.specs.Prelude.{◌≡◌, ◌⊎◌, ℕ, List, [], ◌∷◌, co
 use Rattle.std.specs.declared.option.Option.{Option}
 use Rattle.std.specs.List.{concat}
 use Rattle.std.specs.Fmt.{decimal}
-use Rattle.covering_file.specs.declared.reason.Reason.{Reason}
-use Rattle.covering_file.specs.declared.reason.Reason.TheVariants as reason
+use Rattle.line_grammar.specs.declared.reason.Reason.{Reason}
+use Rattle.line_grammar.specs.declared.reason.Reason.TheVariants as reason
 use Rattle.covering_file.specs.declared.file_kind.FileKind.TheVariants.{Cover}
 use Rattle.covering_file.specs.Header.{first_line}
-use Rattle.covering_file.specs.Text.{BeginsWith}
+use Rattle.line_grammar.specs.Text.{BeginsWith}
 use Rattle.covering_file.specs.Verdicts.{IsAccepted, IsRefused, IsSureFile}
 use Rattle.billiards_cli.specs.Refusals.{newline, RefusesLine}
-use Rattle.billiards_cli.specs.declared.commands.check.TheConstants.{MAX_NODES}
+use Rattle.covering_file.specs.declared.TheConstants.{MAX_NODES}
 use Rattle.billiards_cli.specs.declared.request.Request.{Request}
 use Rattle.billiards_cli.specs.declared.request.Request.TheVariants as request
 use Rattle.billiards_cli.specs.declared.status.Status.{Status}

@@ -1,26 +1,19 @@
 -- The command `word`: the shift of a word that is read from the input.
-use Rattle.std.specs.Prelude.{◌≡◌, ◌≢◌, ◌⊎◌, ℕ, List, [], ◌∷◌, ◌++◌, length, codes, Some, None, Bool, true, false, ⊤}
+use Rattle.std.specs.Prelude.{◌≡◌, ◌⊎◌, ℕ, List, [], ◌∷◌, ◌++◌, length, codes, Some, None, Bool, true, false}
 use Rattle.std.specs.declared.option.Option.{Option}
 use Rattle.std.specs.declared.result.Result.{Result}
 use Rattle.std.specs.List.{concat, flat_map}
 use Rattle.std.specs.Fmt.{decimal, signed_decimal}
-use Rattle.std.specs.Io.KnownBytes.{IsAtEnd}
 use Rattle.mcb_ends.specs.Bytes.{Writes}
-use Rattle.mcb_ends.specs.Lines.{IsNext}
-use Rattle.mcb_ends.specs.Lines as next
-use Rattle.edge_words.specs.Reading.{Spells}
 use Rattle.edge_words.specs.Stable.{IsStable}
 use Rattle.exp_sums.specs.declared.terms.Term.{Term}
 use Rattle.exp_sums.specs.FormalPoint.{FormalPoint, terms}
 use Rattle.unfolding.specs.Shift.{IsShift, HasShift}
-use Rattle.covering_file.specs.declared.fault.HeadFault.{HeadFault}
-use Rattle.covering_file.specs.declared.fault.HeadFault.TheVariants.{Line, Read, Memory}
-use Rattle.covering_file.specs.declared.reason.Reason.{Reason}
-use Rattle.covering_file.specs.declared.reason.Reason.TheVariants.{TooLong, Ends, NotAWord, EndLine}
-use Rattle.covering_file.specs.HeaderOffence.{SpellsWord}
-use Rattle.covering_file.specs.Input.{MayBe}
-use Rattle.covering_file.specs.Offence.{IsTooLong, EndsEarly}
-use Rattle.covering_file.specs.Text.{BeginsWith}
+use Rattle.line_grammar.specs.Offence.{IsFirstOffence}
+use Rattle.line_grammar.specs.Part.{Part, line_part, whole_text}
+use Rattle.line_grammar.specs.Text.{text_of}
+use Rattle.line_grammar.specs.declared.reason.Reason.{Reason}
+use Rattle.billiards_cli.specs.Arguments.{any_word}
 use Rattle.billiards_cli.specs.Refusals.{newline, RefusesLine}
 use Rattle.billiards_cli.specs.declared.request.Request.{Request}
 use Rattle.billiards_cli.specs.declared.request.Request.TheVariants as request
@@ -32,20 +25,19 @@ abbrev pub word_request : List (List ℕ) → Option Request
 word_request [] = Some request.Word
 word_request (argument ∷ more) = None
 
--- ---- the input: one line that is a word, and nothing after it
+-- ---- the input
+
+-- one line that is a word, and nothing after it
+abbrev pub word_input : Part (List ℕ)
+word_input = whole_text (line_part any_word)
 
 pub record IsWordLine (input w : List ℕ) : Type 0 where
-  pub line : List ℕ
-  pub whole : IsNext input (next.Text line) []
-  pub spells : Spells line w
+  pub says : word_input.Says w
+  pub text : input ≡ text_of (word_input.lines_of w)
 
 -- the input offends first at this line, counted from 1, and this is the least of its reasons there
-abbrev pub Offends : List ℕ → ℕ → Reason → Type 0
-Offends input line TooLong = (line ≡ 1) × IsTooLong input
-Offends input line Ends = (line ≡ 1) × ¬ (IsTooLong input) × EndsEarly input
-Offends input line NotAWord = (line ≡ 1) × ((first : List ℕ) × BeginsWith input first × ¬ (SpellsWord first))
-Offends input line EndLine = (line ≡ 2) × ((first rest : List ℕ) × IsNext input (next.Text first) rest × SpellsWord first × (rest ≢ []))
-Offends input line reason = ⊥
+abbrev pub IsRefusedWord : List ℕ → ℕ → Reason → Type 0
+IsRefusedWord input line reason = IsFirstOffence word_input.grammar input line reason
 
 -- ---- the text
 
@@ -87,7 +79,7 @@ pub record WordWantsMemory (input text : List ℕ) : Type 0 where
 -- Done with the text of the word. The first line that offends is refused. Memory is wanting only for a stable word.
 abbrev pub IsWordAnswer : List ℕ → Status → List ℕ → Type 0
 IsWordAnswer input Done text = AnswersWord input text
-IsWordAnswer input Malformed text = RefusesLine (Offends input) text
+IsWordAnswer input Malformed text = RefusesLine (IsRefusedWord input) text
 IsWordAnswer input OutOfMemory text = WordWantsMemory input text
 IsWordAnswer input status text = ⊥
 
@@ -103,19 +95,6 @@ ends_word OutOfMemory = true
 ends_word status = false
 
 -- ---- its steps
-
--- the input is one line that spells w, of the bytes that the source has left, or of some where it does not tell them, and is read to its end
-pub record ReadsWhole (left left' : Option (List ℕ)) (w : List ℕ) : Type 0 where
-  pub input : List ℕ
-  pub may_be : MayBe left input
-  pub line : IsWordLine input w
-  pub end : IsAtEnd left'
-
--- A refused line is the first that offends. Memory is not wanting.
-abbrev pub IsRefusedBy : Option (List ℕ) → HeadFault → Type 0
-IsRefusedBy left (Line line reason) = (bytes : List ℕ) × MayBe left bytes × Offends bytes line reason
-IsRefusedBy left Read = ⊤
-IsRefusedBy left Memory = ⊥
 
 -- the text of the word's shift is written, or a prefix of it
 pub record WritesShift {T E : Type 0} (w : List ℕ) (old new : Option (List ℕ)) (result : Result T E) : Type 0 where

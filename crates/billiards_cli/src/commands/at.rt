@@ -2,7 +2,8 @@
 ghost use Rattle.std.specs.Prelude.{◌≡◌, ◌⊎◌, ℕ, List, Option, Ok, true, false, OnErr};
 ghost use Rattle.edge_words.specs.Stable.{IsStable};
 ghost use Rattle.gradient_bounds.specs.Corridor.{HasCorridor};
-ghost use Rattle.gradient_bounds.specs.Clear.{IsClearAtPoint, slack};
+ghost use Rattle.gradient_bounds.specs.Clear.{IsClearAtPoint};
+ghost use Rattle.gradient_bounds.specs.Slacks.{sure};
 ghost use Rattle.billiards_cli.specs.Commands.At.{AtTriangle, at_request};
 ghost use Rattle.billiards_cli.specs.Requests.{command_of};
 ghost use Rattle.billiards_cli.specs.Services.{Serves};
@@ -58,7 +59,7 @@ pub(crate) fn at<K: Sink>(
 fn is_open(alloc: Global, word: &Word, triangle: &Triangle) -> Result<bool, OutOfMemory>
     requires { IsStable word.now }
     ensures open { result ≡ Ok true → AtTriangle triangle.now (HasCorridor word.now) }
-    ensures not_shown { result ≡ Ok false → ¬ (AtTriangle triangle.now (λ x y. IsClearAtPoint word.now x y (slack 40))) }
+    ensures not_shown { result ≡ Ok false → ¬ (AtTriangle triangle.now (λ x y. IsClearAtPoint word.now x y sure.gradient)) }
 {
     match Prepared::<Fine>::new(alloc, word) {
         Ok(mut prepared) => Ok(prepared.test_point(triangle.first(), triangle.second())),

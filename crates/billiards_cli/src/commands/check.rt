@@ -13,12 +13,9 @@ use crate::request::Request;
 use crate::status::after_writing;
 use acceptance::write_acceptance;
 use cover_checker::{CheckFault, Verdict};
-use covering_file::Reason;
+use covering_file::{MAX_NODES, Reason};
 use mcb_ends::{Sink, Source};
 use std::alloc::Global;
-
-/// The greatest number of nodes of a covering file.
-pub(crate) const MAX_NODES: u32 = 2_000_000;
 
 /// It takes no arguments.
 pub(crate) fn request<'a>(arguments: &Rest<'a>) -> Option<Request<'a>>

@@ -1,10 +1,14 @@
 //! The command `word`: the shift of a word that is read from the input.
-ghost use Rattle.std.specs.Prelude.{◌≡◌, ◌⊎◌, ℕ, List, Option, IfOk, IfErr};
-ghost use Rattle.mcb_ends.specs.Causes.{HasCause};
+ghost use Rattle.std.specs.Prelude.{◌≡◌, ◌⊎◌, ℕ, List, Option};
+ghost use Rattle.std.specs.Io.KnownBytes.{IsAtEnd};
+ghost use Rattle.mcb_ends.specs.Causes.{HasCause, HasCauseWhere};
 ghost use Rattle.edge_words.specs.Stable.{IsStable};
 ghost use Rattle.edge_words.specs.Word.{IsWord};
-ghost use Rattle.covering_file.specs.Faults.{HasHeadCause};
-ghost use Rattle.billiards_cli.specs.Commands.Word.{ReadsWhole, IsRefusedBy, WritesShift, word_request};
+ghost use Rattle.line_grammar.specs.Faults.{refusal_of, is_read};
+ghost use Rattle.line_grammar.specs.Input.{MayBe};
+ghost use Rattle.line_grammar.specs.Reading.{ReadsInput};
+ghost use Rattle.line_grammar.specs.Text.{text_of};
+ghost use Rattle.billiards_cli.specs.Commands.Word.{WritesShift, word_input, word_request};
 ghost use Rattle.billiards_cli.specs.Requests.{command_of};
 ghost use Rattle.billiards_cli.specs.Services.{Serves};
 
@@ -16,8 +20,8 @@ use crate::args::Rest;
 use crate::refusal::write_refusal;
 use crate::request::Request;
 use crate::status::after_writing;
-use covering_file::{HeadFault, end_of_input, take};
 use edge_words::Word;
+use line_grammar::{LineFault, end_of_input, take};
 use mcb_ends::{Failed, LineReader, OutOfMemory, Sink, Source, put};
 use shift::write_shift;
 use std::alloc::Global;
@@ -46,19 +50,17 @@ pub(crate) fn word<S: Source, K: Sink>(alloc: Global, src: &mut S, out: &mut K) 
 {
     match read_input(alloc, src) {
         Ok(word) => answer(alloc, &word, out),
-        Err(HeadFault::Line { line, reason }) => {
+        Err(LineFault::Line { line, reason }) => {
             after_writing(Status::Malformed, write_refusal(line, reason, out))
         }
-        Err(HeadFault::Read) => Status::ReadFault,
-        Err(HeadFault::Memory) => unreachable!(),
+        Err(LineFault::Read) => Status::ReadFault,
     }
 }
 
 // Reads the one line of the input. Nothing may stand after it.
-fn read_input<S: Source>(alloc: Global, src: &mut S) -> Result<Word, HeadFault>
-    ensures whole { IfOk result (ReadsWhole (S.left src.old) (S.left src.new)) }
-    ensures refused { IfErr result (IsRefusedBy (S.left src.old)) }
-    ensures cause { HasHeadCause (S.faults src.old) (S.faults src.new) result }
+fn read_input<S: Source>(alloc: Global, src: &mut S) -> Result<Word, LineFault>
+    ensures reads { ReadsInput word_input refusal_of (S.left src.old) (S.left src.new) result }
+    ensures cause { HasCauseWhere is_read (S.faults src.old) (S.faults src.new) result }
 {
     let mut lines = LineReader::new();
     let word = take(&WordLine { alloc }, &mut lines, src)?;
@@ -71,7 +73,8 @@ fn answer<K: Sink>(alloc: Global, word: &Word, out: &mut K) -> Status
     requires { IsWord word.now }
     ensures unwritten { (result ≡ Status.ReadFault) ⊎ (result ≡ Status.OutOfMemory) → out.new ≡ out.old }
     ensures room { K.room out.new ≡ K.room out.old }
-    ensures serves { (left left' : Option (List ℕ)) (faults faults' : ℕ) → ReadsWhole left left' word.now → faults' ≡ faults
+    ensures serves { (left left' : Option (List ℕ)) (faults faults' : ℕ)
+        → MayBe left (text_of (word_input.lines_of word.now)) → IsAtEnd left' → faults' ≡ faults
         → Serves (command_of Request.Word)
         (record { left = left; source_faults = faults; written = K.written out.old; sink_faults = K.faults out.old })
         (record { left = left'; source_faults = faults'; written = K.written out.new; sink_faults = K.faults out.new })

@@ -1,7 +1,7 @@
-ghost use Rattle.billiards_cli.specs.Arguments.{ReadsAnyWord};
+ghost use Rattle.billiards_cli.specs.Arguments.{any_word};
 
-use covering_file::{Form, Reason};
 use edge_words::Word;
+use line_grammar::{Form, Reason};
 use std::alloc::Global;
 
 /// The line of a word, be it stable or not.
@@ -13,7 +13,7 @@ pub(crate) struct WordLine {
 impl Form for WordLine {
     type Value = Word;
 
-    ghost reads = { λ _. ReadsAnyWord };
+    ghost form = { λ _. any_word };
 
     fn read(&self, line: &[u8]) -> Result<Word, Reason> {
         match Word::read(self.alloc, line) {
