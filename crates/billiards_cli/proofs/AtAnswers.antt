@@ -21,7 +21,7 @@ pub one_spelling : (argument w v : List ℕ) → Spells argument w → Spells ar
 one_spelling argument w v first second = digits_of-injective v w (sym second.digits ∙ first.digits)
 
 -- an argument that spells a stable word is not refused
-not_refused : (argument w : List ℕ) (reason : Reason) → Spells argument w → IsStable w → RefusesWord argument reason → ⊥
+pub not_refused : (argument w : List ℕ) (reason : Reason) → Spells argument w → IsStable w → RefusesWord argument reason → ⊥
 not_refused argument w NotAWord spells stable none = none (w, spells)
 not_refused argument w UnstableWord spells stable unstable =
     unstable.2 (subst (λ (x : List ℕ). IsStable x) (one_spelling argument unstable.0 w unstable.1 spells) stable)

@@ -1,10 +1,12 @@
 -- What a reader of its own says of an input.
-use Rattle.std.proofs.Common.{◌≡◌, ℕ, ◌+◌, List, ◌++◌, length, Option, Some, None, subst, refl, sym, arith, ◌∙◌}
+use Rattle.std.proofs.Common.{◌≡◌, ℕ, ◌+◌, List, ◌++◌, length, Option, Some, None, Ok, Err, subst, refl, sym, arith, ◌∙◌}
 use Rattle.std.specs.Io.KnownBytes.{Consumes}
 use Rattle.mcb_ends.specs.Reader.{Reader}
 use Rattle.line_grammar.specs.Input.{MayBe, IsNew}
 use Rattle.line_grammar.specs.Offence.{Grammar, IsFirstOffence}
-use Rattle.line_grammar.specs.Reading.{StopsAfter, FailsPart}
+use Rattle.line_grammar.specs.Faults.{Refusal}
+use Rattle.line_grammar.specs.Part.{Part}
+use Rattle.line_grammar.specs.Reading.{StopsAfter, FailsPart, TakesText, ReadsInput}
 use Rattle.line_grammar.specs.Text.{text_of}
 use Rattle.line_grammar.specs.declared.reason.Reason.{Reason}
 use Rattle.line_grammar.proofs.Taken.{new_bytes}
@@ -45,3 +47,17 @@ pub fails_in : (g : Grammar) (old new : Reader) (left left' : Option (List ℕ))
     → FailsIn (By g) left left'
 fails_in g old new left left' fresh fails =
     (length (g.lines_before fails.due) + 1, stops_at g fails.due (length (g.lines_before fails.due) + 1) old new left left' fresh fails.reached refl fails.stops)
+
+-- an input that a reader of its own failed in, or took whole
+pub input_fails : {V F : Type 0} (part : Part V) (refusal : F → Option Refusal) (fault : F) (old new : Reader) (left left' : Option (List ℕ))
+    → IsNew old → FailsPart part.grammar old new left left' (refusal fault) → ReadsInput part refusal left left' (Err fault)
+input_fails part refusal fault old new left left' fresh fails = record { old = old; new = new; is_new = fresh; reads = fails }
+
+pub input_taken : {V F : Type 0} (part : Part V) (refusal : F → Option Refusal) (value : V) (old new : Reader) (left left' : Option (List ℕ))
+    → IsNew old → TakesText part old left left' value → ReadsInput part refusal left left' (Ok value)
+input_taken part refusal value old new left left' fresh takes = record { old = old; new = new; is_new = fresh; reads = takes }
+
+pub whole_input : {V : Type 0} (part : Part V) (value : V) (old : Reader) (left left' : Option (List ℕ)) → IsNew old
+    → TakesText part old left left' value → MayBe left (text_of (part.lines_of value))
+whole_input part value old left left' fresh takes =
+    subst (λ (x : Option (List ℕ)). MayBe x (text_of (part.lines_of value))) (new_bytes old left fresh) takes.text

@@ -8,3 +8,4 @@ pub mod Inputs
 pub mod WordAnswers
 pub mod CheckAnswers
 pub mod AtAnswers
+pub mod OneAnswer

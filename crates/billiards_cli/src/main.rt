@@ -6,6 +6,7 @@
 
 mod args;
 mod commands;
+pub mod laws;
 mod number;
 mod program;
 mod refusal;
