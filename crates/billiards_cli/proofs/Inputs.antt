@@ -15,14 +15,10 @@ use Rattle.billiards_cli.specs.Services.{StopsAtLine, FailsIn}
 
 stops_at : (g : Grammar) (due : g.Due) (line : ℕ) (old new : Reader) (left left' : Option (List ℕ)) → IsNew old → g.IsReached due
     → line ≡ length (g.lines_before due) + 1 → StopsAfter (g.lines_before due) old new left left' → StopsAtLine g line left left'
-stops_at g due line old new left left' fresh reached number stops = record {
-  due = due;
-  reached = reached;
-  number = number;
-  more = stops.ahead.more;
-  one_buffer = stops.ahead.one_buffer;
-  read = subst (λ (x : Option (List ℕ)). Consumes x left' (text_of (g.lines_before due) ++ stops.ahead.more)) (new_bytes old left fresh) stops.ahead.read;
-}
+stops_at g due line old new left left' fresh reached number stops =
+    let read = subst (λ (x : Option (List ℕ)). Consumes x left' (text_of (g.lines_before due) ++ stops.ahead.more)) (new_bytes old left fresh)
+          stops.ahead.read in
+    (due, number, record { reached = reached; more = stops.ahead.more; one_buffer = stops.ahead.one_buffer; read = read })
 
 -- the line is the first that offends in some bytes that the input may be, and reading stopped there
 pub record NamesFirst (g : Grammar) (line : ℕ) (reason : Reason) (left left' : Option (List ℕ)) : Type 0 where

@@ -1,15 +1,15 @@
 -- What a run of a command does to its source and its sink.
-use Rattle.std.specs.Prelude.{◌≡◌, ◌⊎◌, ℕ, ◌+◌, ◌≤◌, Bool, true, false, List, [], ◌++◌, length, ⊤}
+use Rattle.std.specs.Prelude.{◌≡◌, ◌⊎◌, ℕ, ◌+◌, Bool, true, false, List, [], length, ⊤}
 use Rattle.std.specs.declared.option.Option.{Option}
 use Rattle.std.specs.declared.result.Result.{Result}
 use Rattle.std.specs.declared.result.Result.TheVariants.{Ok, Err}
-use Rattle.std.specs.Io.KnownBytes.{Appends, Consumes, IsAtEnd}
+use Rattle.std.specs.Io.KnownBytes.{Appends, IsAtEnd}
 use Rattle.mcb_ends.specs.Bytes.{AppendsPrefix}
 use Rattle.mcb_ends.specs.Causes.{Rose}
 use Rattle.line_grammar.specs.Input.{MayBe}
 use Rattle.line_grammar.specs.Offence.{Grammar}
-use Rattle.line_grammar.specs.Text.{text_of}
 use Rattle.line_grammar.specs.declared.reason.Reason.{Reason}
+use Rattle.cover_checker.specs.Verdicts.{EndsAt}
 use Rattle.billiards_cli.specs.Command.{Reading, Nothing, By, Command}
 use Rattle.billiards_cli.specs.Refusals.{refused_text}
 use Rattle.billiards_cli.specs.Streams.{Streams}
@@ -19,13 +19,8 @@ use Rattle.billiards_cli.specs.declared.status.Status.TheVariants.{Done, NotShow
 -- ---- how much was read
 
 -- Reading stopped at a due line that is reached, which has this number: at most one buffer of 4,096 bytes after the lines before it was read.
-pub record StopsAtLine (g : Grammar) (line : ℕ) (left left' : Option (List ℕ)) : Type 0 where
-  pub due : g.Due
-  pub reached : g.IsReached due
-  pub number : line ≡ length (g.lines_before due) + 1
-  pub more : List ℕ
-  pub one_buffer : length more ≤ 4096
-  pub read : Consumes left left' (text_of (g.lines_before due) ++ more)
+abbrev pub StopsAtLine : Grammar → ℕ → Option (List ℕ) → Option (List ℕ) → Type 0
+StopsAtLine g line left left' = (due : g.Due) × (line ≡ length (g.lines_before due) + 1) × EndsAt g due left left'
 
 -- the line that a refusal names; a text that is empty names none
 abbrev pub MayName : List ℕ → ℕ → Type 0

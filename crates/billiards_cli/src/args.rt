@@ -1,5 +1,6 @@
 ghost use Rattle.std.specs.Prelude.{◌≡◌, ◌<◌, [], ◌∷◌, ◌++◌, length, slice_get, Some, OnOk, OnErr, MatchOption};
 
+use crate::rest::Rest;
 use std::alloc::{AllocError as OutOfMemory, Global};
 use std::marker::Model;
 
@@ -60,39 +61,6 @@ impl Args {
         if self.len() == 0 {
             return None;
         }
-        Some((self.word(0), Rest { all: self }))
-    }
-}
-
-/// The arguments after the name of a command.
-#[derive(Drop)]
-pub(crate) struct Rest<'a> {
-    all: &'a Args,
-}
-
-impl<'a> Model for Rest<'a> {
-    ghost use Rattle.std.specs.Prelude.{List, ℕ, ◌<◌, ◌^◌, length, drop};
-
-    ghost Value = { List (List ℕ) };
-
-    ghost view = { λ r. drop 1 r.all.now };
-
-    ghost invariant = { λ r. (0 < length r.all.now) × (length r.all.now < 2 ^ 64) };
-}
-
-impl<'a> Rest<'a> {
-    /// How many arguments there are.
-    pub(crate) fn len(&self) -> usize
-        ensures { result ≡ length self.now }
-    {
-        self.all.len() - 1
-    }
-
-    /// The bytes of an argument, counted from 0.
-    pub(crate) fn get(&self, i: usize) -> &'a [u8]
-        requires { i < length self.now }
-        ensures { slice_get self.now i ≡ Some result.now }
-    {
-        self.all.word(i + 1)
+        Some((self.word(0), Rest::of(self)))
     }
 }

@@ -11,6 +11,7 @@ mod number;
 mod program;
 mod refusal;
 mod request;
+mod rest;
 mod status;
 #[cfg(test)]
 mod tests;

@@ -8,9 +8,9 @@ ghost use Rattle.billiards_cli.specs.Commands.At.{AtTriangle, at_request};
 ghost use Rattle.billiards_cli.specs.Requests.{command_of};
 ghost use Rattle.billiards_cli.specs.Services.{Serves};
 
-use crate::args::Rest;
 use crate::refusal::write_argument_refusal;
 use crate::request::Request;
+use crate::rest::Rest;
 use crate::status::after_writing;
 use crate::{Status, Triangle, WordArgument};
 use edge_words::Word;

@@ -7,9 +7,9 @@ ghost use Rattle.billiards_cli.specs.Services.{Serves};
 mod acceptance;
 
 use crate::Status;
-use crate::args::Rest;
 use crate::refusal::write_refusal;
 use crate::request::Request;
+use crate::rest::Rest;
 use crate::status::after_writing;
 use acceptance::write_acceptance;
 use cover_checker::{CheckFault, Verdict};

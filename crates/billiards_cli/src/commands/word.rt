@@ -16,9 +16,9 @@ mod shift;
 mod word_line;
 
 use crate::Status;
-use crate::args::Rest;
 use crate::refusal::write_refusal;
 use crate::request::Request;
+use crate::rest::Rest;
 use crate::status::after_writing;
 use edge_words::Word;
 use line_grammar::{LineFault, end_of_input, take};

@@ -34,6 +34,11 @@ const ACCEPTED: &str = "accepted nodes=29 words=1\n";
 // In place of the last nodes: the square (5, 5) of level 4 is shown whole.
 const FEWER_NODES: &str = "s\ns\no\no\no\nw 1\no\no\no\no\no\no\n";
 
+// A square round a right triangle, and four boxes of it that are left uncovered.
+const RIGHT_TRIANGLES: &str = "polygon 4\n31 15\n33 15\n33 17\n31 17\n";
+
+const UNCOVERED: &str = "depth 2\ns\ns\no\nu\no\nu\ns\nu\no\nu\no\no\no\nend open 4\n";
+
 fn joined(alloc: Global, parts: &[&str]) -> Result<String, AllocError> {
     let mut text = String::new(alloc);
     for part in parts {
@@ -173,8 +178,6 @@ fn check_refuses_a_file_that_is_cut(rt: HostRuntime) -> Result<(), Fail> {
 // Other trees, and a line after the end line.
 #[test]
 fn check_judges_whole_files(rt: HostRuntime) -> Result<(), Fail> {
-    let right_triangles = "polygon 4\n31 15\n33 15\n33 17\n31 17\n";
-    let uncovered = "depth 2\ns\ns\no\nu\no\nu\ns\nu\no\nu\no\no\no\nend open 4\n";
     let rows: [(&[&str], Status, &str); 5] = [
         (&FILE, Status::Done, ACCEPTED),
         (
@@ -190,7 +193,7 @@ fn check_judges_whole_files(rt: HostRuntime) -> Result<(), Fail> {
         ),
         // Four squares round a right triangle are left uncovered.
         (
-            &["mcbcover 1\ngrid 64\n", right_triangles, WORD, uncovered],
+            &["mcbcover 1\ngrid 64\n", RIGHT_TRIANGLES, WORD, UNCOVERED],
             Status::NotShown,
             "refused line=14 reason=12\n",
         ),
