@@ -38,8 +38,8 @@ pub use Rattle.gradient_bounds.specs.Corridor.{HasCorridor}
 -- polygons, their points, and which points are triangles
 pub use Rattle.rational_polygon.specs.Outline.{IsPolygon, IsInPolygon}
 pub use Rattle.rational_polygon.specs.Point.{IsTriangle}
+-- lines one after another, the text of a covering file, and what it says of its polygon
 pub use Rattle.line_grammar.specs.Text.{text_of}
--- the text of a covering file, and what it says of its polygon
 pub use Rattle.covering_file.specs.Header.{Heading, IsHeading, header_text}
 pub use Rattle.covering_file.specs.Tree.{Tree, file_text}
 pub use Rattle.covering_file.specs.Covering.{IsCovered, IsCovering}

@@ -11,13 +11,13 @@ pub(crate) struct Rest<'a> {
 }
 
 impl<'a> Model for Rest<'a> {
-    ghost use Rattle.std.specs.Prelude.{◌≡◌, ◌+◌, List, ℕ, length, drop};
+    ghost use Rattle.std.specs.Prelude.{◌≡◌, ◌+◌, ◌^◌, ◌<◌, List, ℕ, length, drop};
 
     ghost Value = { List (List ℕ) };
 
     ghost view = { λ r. drop 1 r.all.now };
 
-    ghost invariant = { λ r. r.len + 1 ≡ length r.all.now };
+    ghost invariant = { λ r. (r.len + 1 ≡ length r.all.now) × (r.len + 1 < 2 ^ 64) };
 }
 
 impl<'a> Rest<'a> {
