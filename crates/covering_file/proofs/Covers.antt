@@ -2,7 +2,7 @@
 use Rattle.std.proofs.Common.{◌⊎◌, inl, inr, ℕ, zero, suc, ◌^◌, ◌<◌, pos, refl, arith}
 use Rattle.std.proofs.lemmas.Int.{ints}
 use Rattle.std.proofs.lemmas.Nat.{pow_pos}
-use Rattle.rat_core.specs.Fraction.{ℚ, whole, ◌≤ℚ◌, ◌<ℚ◌}
+use Rattle.rat_core.specs.Fraction.{whole, ◌≤ℚ◌, ◌<ℚ◌}
 use Rattle.rat_core.proofs.Laws.{over_le}
 use Rattle.rat_core.proofs.Order.{over_positive}
 use Rattle.rational_polygon.specs.Point.{Point}
@@ -12,7 +12,8 @@ use Rattle.rational_polygon.proofs.Fan.{point_is_triangle}
 use Rattle.rational_polygon.proofs.Grid.{in_unit_square}
 use Rattle.rational_polygon.proofs.Halves.{some_child}
 use Rattle.rational_polygon.proofs.Separation.{apart_has_none}
-use Rattle.gradient_bounds.specs.Clear.{slack}
+use Rattle.gradient_bounds.specs.Slacks.{Slacks}
+use Rattle.gradient_bounds.specs.Slacks as slacks
 use Rattle.gradient_bounds.proofs.Boxes.{clear_gives_corridor_lem, clear_with_less_lem}
 use Rattle.covering_file.specs.declared.node.Node.{Node}
 use Rattle.covering_file.specs.declared.node.Node.TheVariants.{Split, Outside, Shown, Uncovered}
@@ -37,10 +38,10 @@ one_of_four (suc (suc zero)) P less p = inr (inr (inl p))
 one_of_four (suc (suc (suc zero))) P less p = inr (inr (inr p))
 one_of_four (suc (suc (suc (suc c)))) P less p = absurd (omega (arith, less))
 
-abbrev IsSoundFrom : Heading → ℚ → Square → Tree → Type 0
+abbrev IsSoundFrom : Heading → Slacks → Square → Tree → Type 0
 IsSoundFrom h e root t = (box : Square) (node : Node) → StandsAt root t box node → IsSoundNode h e box node
 
-found : (t : Tree) (h : Heading) (e : ℚ) (root : Square) (p : Point) → IsSoundFrom h e root t → IsInPolygon h.outline p → IsInBox root p → IsFound root t p
+found : (t : Tree) (h : Heading) (e : Slacks) (root : Square) (p : Point) → IsSoundFrom h e root t → IsInPolygon h.outline p → IsInBox root p → IsFound root t p
 found (leaf Split is) h e root p sound of_polygon inside = absurd is
 found (leaf Outside is) h e root p sound of_polygon inside = absurd (apart_has_none root h.outline p (sound root Outside (refl, refl)) of_polygon inside)
 found (leaf (Shown i) is) h e root p sound of_polygon inside = record { box = root; word = i; stands = (refl, refl); inside = inside }
@@ -68,30 +69,30 @@ found (split a b c d) h e root p sound of_polygon inside =
 
 pub sound_covers : SoundCovers
 sound_covers h t heading sound p of_polygon =
-    let f = found t h (slack 60) unit_square p sound of_polygon (in_unit_square h.outline p heading.polygon of_polygon) in
+    let f = found t h slacks.sound unit_square p sound of_polygon (in_unit_square h.outline p heading.polygon of_polygon) in
     (f.box, f.word, f.stands, f.inside)
 
 -- ---- slacks
 
-positive : whole 0 <ℚ slack 60
+positive : whole 0 <ℚ slacks.sound.gradient
 positive = over_positive 1 (2 ^ 60) (omega arith) (pow_pos 60)
 
-narrower : slack 60 ≤ℚ slack 40
+narrower : slacks.sound.gradient ≤ℚ slacks.sure.gradient
 narrower = over_le (pos 1) (pos 1) (2 ^ 60) (2 ^ 40) (pow_pos 60) (pow_pos 40) (omega (arith, ints))
 
 pub sound_is_covered : SoundIsCovered
 sound_is_covered h t heading sound p of_polygon triangle =
     let f = sound_covers h t heading sound p of_polygon in
     let shows = sound f.0 (Shown f.1) f.2 in
-    (f.1, shows.0, clear_gives_corridor_lem (word_at h.words f.1) f.0 (slack 60) positive shows.1 p f.3)
+    (f.1, shows.0, clear_gives_corridor_lem (word_at h.words f.1) f.0 slacks.sound.gradient positive shows.1 p f.3)
 
 pub covered_everywhere : CoveredEverywhere
 covered_everywhere h heading covered p of_polygon = covered p of_polygon (point_is_triangle h.outline p heading.polygon of_polygon)
 
-sure_node : (h : Heading) (box : Square) (node : Node) → IsSoundNode h (slack 40) box node → IsSoundNode h (slack 60) box node
+sure_node : (h : Heading) (box : Square) (node : Node) → IsSoundNode h slacks.sure box node → IsSoundNode h slacks.sound box node
 sure_node h box Split sure = sure
 sure_node h box Outside sure = sure
-sure_node h box (Shown i) sure = (sure.0, clear_with_less_lem (word_at h.words i) box (slack 40) (slack 60) narrower sure.1)
+sure_node h box (Shown i) sure = (sure.0, clear_with_less_lem (word_at h.words i) box slacks.sure.gradient slacks.sound.gradient narrower sure.1)
 sure_node h box Uncovered sure = sure
 
 pub sure_is_sound : SureIsSound

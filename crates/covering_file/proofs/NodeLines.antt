@@ -1,19 +1,15 @@
--- The lines of nodes: they are short, tell the node, and offend at no box where the node may surely stand.
+-- The lines of nodes: they are short and tell the node.
 use Rattle.std.proofs.Common.{◌≡◌, inl, inr, ℕ, ◌<◌, ◌≤◌, List, length, get_or, decimal, codes, false, refl, ap, subst, arith}
-use Rattle.rat_core.specs.Fraction.{ℚ}
 use Rattle.rational_polygon.specs.Square.{Square}
-use Rattle.gradient_bounds.specs.Clear.{slack}
+use Rattle.gradient_bounds.specs.Slacks.{Slacks}
 use Rattle.mcb_ends.specs.Lines.{newline, HasNoNewline, IsShortLine}
 use Rattle.covering_file.specs.declared.node.Node.{Node}
 use Rattle.covering_file.specs.declared.node.Node.TheVariants.{Split, Outside, Shown, Uncovered}
-use Rattle.covering_file.specs.declared.reason.Reason.{Reason}
-use Rattle.covering_file.specs.declared.reason.Reason.TheVariants as reason
-use Rattle.covering_file.specs.Text.{space}
+use Rattle.line_grammar.specs.Text.{space}
 use Rattle.covering_file.specs.Header.{Heading}
 use Rattle.covering_file.specs.Node.{is_uncovered, node_line, IsNode, NodeHasForm}
 use Rattle.covering_file.specs.Sound.{IsSoundNode}
-use Rattle.covering_file.specs.FileOffence.{NodeCanHave}
-use Rattle.covering_file.proofs.Lines.{lacks_byte, two_fields-one, two_fields-short, decimal-no_space, one_number}
+use Rattle.line_grammar.proofs.Lines.{lacks_byte, two_fields-one, two_fields-short, decimal-no_space, one_number}
 
 -- no line of a node holds a newline, whatever its number
 pub node_line-one : (n : Node) → HasNoNewline (node_line n)
@@ -43,30 +39,10 @@ node_line-form (Shown i) =
     inr (inr (inr (decimal i, record { is = refl; first_field = lacks_byte space (codes "w") refl; second_field = decimal-no_space i })))
 node_line-form Uncovered = inr (inr (inl refl))
 
-pub sound_is_node : (h : Heading) (e : ℚ) (box : Square) (n : Node) → IsSoundNode h e box n → IsNode (length h.words) n
+pub sound_is_node : (h : Heading) (e : Slacks) (box : Square) (n : Node) → IsSoundNode h e box n → IsNode (length h.words) n
 sound_is_node h e box (Shown i) sound = sound.0
 sound_is_node h e box n sound = tt
 
-pub sound_is_covered : (h : Heading) (e : ℚ) (box : Square) (n : Node) → IsSoundNode h e box n → is_uncovered n ≡ false
+pub sound_is_covered : (h : Heading) (e : Slacks) (box : Square) (n : Node) → IsSoundNode h e box n → is_uncovered n ≡ false
 sound_is_covered h e box Uncovered sound = absurd sound
 sound_is_covered h e box n sound = refl
-
--- the node of a line
-pub same_node : (h : Heading) (e : ℚ) (box : Square) (m n : Node) → length h.words ≤ 32 → IsSoundNode h e box m → node_line m ≡ node_line n → IsSoundNode h e box n
-same_node h e box m n few sound same =
-    subst (λ (k : Node). IsSoundNode h e box k) (one_node (length h.words) few m n (sound_is_node h e box m sound) same) sound
-
--- the line of a node that may stand at a box with the wider slack has no reason there
-pub sure_lacks : (limit : ℕ) (h : Heading) (nodes : List Node) (box : Square) (n : Node) → length h.words ≤ 32 → length nodes < limit → IsSoundNode h (slack 40) box n → (r : Reason) → ¬ (NodeCanHave limit h nodes box (node_line n) r)
-sure_lacks limit h nodes box n few more sure reason.OtherLine has = has (node_line-form n)
-sure_lacks limit h nodes box n few more sure reason.Number has = has.1 (n, sound_is_node h (slack 40) box n sure, refl)
-sure_lacks limit h nodes box n few more sure reason.SplitTooDeep has =
-    let above : box.level < h.depth = same_node h (slack 40) box n Split few sure has.0 in
-    omega (arith, above, has.1)
-sure_lacks limit h nodes box n few more sure reason.NotApart has = has.1 (same_node h (slack 40) box n Outside few sure has.0)
-sure_lacks limit h nodes box n few more sure reason.NotShown has =
-    let shown = same_node h (slack 40) box n (Shown has.0) few sure has.2 in
-    has.3 shown.1
-sure_lacks limit h nodes box n few more sure reason.Uncovered has = same_node h (slack 40) box n Uncovered few sure has
-sure_lacks limit h nodes box n few more sure reason.TooMany has = omega (arith, more, has)
-sure_lacks limit h nodes box n few more sure r has = has

@@ -7,14 +7,14 @@ use Rattle.rational_polygon.specs.Square.{Square, unit_square, child}
 use Rattle.covering_file.specs.declared.file_kind.FileKind.TheVariants.{Cover}
 use Rattle.covering_file.specs.declared.node.Node.{Node}
 use Rattle.covering_file.specs.declared.node.Node.TheVariants.{Split}
-use Rattle.covering_file.specs.Text.{with_newline}
+use Rattle.line_grammar.specs.Text.{with_newline}
 use Rattle.covering_file.specs.Header.{Heading, header_text}
 use Rattle.covering_file.specs.Node.{node_line, IsNode, end_line}
 use Rattle.covering_file.specs.Tree.{Tree, leaf, split, preorder, StandsAt, tree_text, uncovered_in, file_text}
 use Rattle.covering_file.specs.Laws.{FileIsOne, AcceptedIsOne}
-use Rattle.covering_file.proofs.Lines.{parted}
+use Rattle.line_grammar.proofs.Lines.{parted}
 use Rattle.covering_file.proofs.NodeLines.{node_line-one, one_node, sound_is_node}
-use Rattle.covering_file.proofs.OneHeader.{header_is_one}
+use Rattle.covering_file.proofs.HeaderLaws.{header_is_one}
 use Rattle.covering_file.proofs.Trees.{regroup, same_leaf, leaf_is_no_split, same_split}
 
 -- the line of a node of a file, and what stands behind it

@@ -1,11 +1,8 @@
--- One more element at the end, with its line.
+-- One more element at the end.
 use Rattle.std.proofs.Common.{◌≡◌, ℕ, ◌+◌, true, List, [], ◌∷◌, ◌++◌, All, map, length, Option, Result, Ok, sym, ap, ◌∙◌, subst, length-append, if◌then◌else◌}
 use Rattle.std.specs.Result.{is_ok}
 use Rattle.std.proofs.lemmas.List.{map-append}
 use Rattle.std.proofs.lemmas.List.Elements.{All-append, All-nil, All-cons}
-use Rattle.mcb_ends.specs.Reader.{Reader}
-use Rattle.covering_file.specs.Taking.{TakesLines}
-use Rattle.covering_file.proofs.Parts.{takes_as, takes_more}
 
 -- a push that succeeded, seen by another result
 pub pushed : {A T U E F : Type 0} (old new : List A) (x : A) (pushing : Result T E) (seen : Result U F) (value : U) → new ≡ (if is_ok pushing then old ++ x ∷ [] else old) → is_ok seen ≡ is_ok pushing → seen ≡ Ok value → new ≡ old ++ x ∷ []
@@ -18,8 +15,3 @@ all_more P old new x is all here = subst (All P) (sym is) (All-append P old (x �
 
 pub length_more : {A : Type 0} (old new : List A) (x : A) → new ≡ old ++ x ∷ [] → length new ≡ length old + 1
 length_more old new x is = ap length is ∙ length-append old (x ∷ [])
-
-pub lines_more : {A : Type 0} (line_of : A → List ℕ) (old new : List A) (x : A) (line : List ℕ) (first mid last : Reader) (a b c : Option (List ℕ)) → new ≡ old ++ x ∷ [] → line ≡ line_of x → TakesLines (map line_of old) first mid a b → TakesLines (line ∷ []) mid last b c → TakesLines (map line_of new) first last a c
-lines_more line_of old new x line first mid last a b c is reads taken one =
-    let mapped : map line_of new ≡ map line_of old ++ line_of x ∷ [] = ap (map line_of) is ∙ map-append line_of old (x ∷ []) in
-    subst (λ (ls : List (List ℕ)). TakesLines ls first last a c) (sym mapped) (takes_more (map line_of old) (line_of x ∷ []) first mid last a b c taken (takes_as line (line_of x) mid last b c reads one))

@@ -9,8 +9,9 @@ use Rattle.std.specs.declared.result.Result.{Result}
 use Rattle.mcb_ends.specs.Bytes.{AppendsPrefix, Writes}
 use Rattle.mcb_ends.proofs.Written.{AppendsPrefix-flat_map, Writes-failed}
 use Rattle.covering_file.specs.declared.file_kind.FileKind.{FileKind}
-use Rattle.covering_file.specs.Header.{Heading, first_line, named_line, outline_lines, words_lines, header_text}
-use Rattle.covering_file.specs.Text.{with_newline, text_of}
+use Rattle.line_grammar.specs.Text.{named_line}
+use Rattle.covering_file.specs.Header.{Heading, first_line, outline_lines, words_lines, header_text}
+use Rattle.line_grammar.specs.Text.{with_newline, text_of}
 
 text_of-map : {A : Type 0} (f : A → List ℕ) (xs : List A) → text_of (map f xs) ≡ flat_map (λ a. with_newline (f a)) xs
 text_of-map f [] = refl

@@ -6,12 +6,12 @@ use Rattle.std.specs.Prelude.{cond, count_by}
 use Rattle.covering_file.specs.declared.file_kind.FileKind.TheVariants.{Cover}
 use Rattle.covering_file.specs.declared.node.Node.{Node}
 use Rattle.covering_file.specs.declared.node.Node.TheVariants.{Split}
-use Rattle.covering_file.specs.Text.{with_newline, text_of}
+use Rattle.line_grammar.specs.Text.{with_newline, text_of}
 use Rattle.covering_file.specs.Header.{Heading, header_lines, header_text}
 use Rattle.covering_file.specs.Node.{is_uncovered, node_line, end_line}
 use Rattle.covering_file.specs.Tree.{Tree, leaf, split, preorder, tree_text, uncovered_in, file_text}
-use Rattle.covering_file.proofs.FrontLines.{text_of-append}
-use Rattle.covering_file.specs.FileOffence.{due_end, AfterEnd, lines_before}
+use Rattle.line_grammar.proofs.FrontLines.{text_of-append}
+use Rattle.covering_file.specs.FilePart.{due_end, file_lines}
 
 abbrev nodes_text : List Node → List ℕ
 nodes_text nodes = text_of (map node_line nodes)
@@ -47,9 +47,8 @@ tree_text-end t =
     ∙ ap (λ (text : List ℕ). text_of (map node_line (preorder t)) ++ text) (sym (append-nil (with_newline (due_end (preorder t)))))
     ∙ sym (text_of-append (map node_line (preorder t)) (due_end (preorder t) ∷ []))
 
-pub file_text-lines : (h : Heading) (t : Tree) → file_text h t ≡ text_of (lines_before (AfterEnd h (preorder t)))
+pub file_text-lines : (h : Heading) (t : Tree) → file_text h t ≡ text_of (file_lines h (preorder t))
 file_text-lines h t =
     append_assoc (header_text Cover h) (tree_text t) (with_newline (end_line (uncovered_in t)))
     ∙ ap (λ (text : List ℕ). header_text Cover h ++ text) (tree_text-end t)
     ∙ sym (text_of-append (header_lines Cover h) (map node_line (preorder t) ++ due_end (preorder t) ∷ []))
-    ∙ ap (λ (lines : List (List ℕ)). text_of lines) (sym (append_assoc (header_lines Cover h) (map node_line (preorder t)) (due_end (preorder t) ∷ [])))

@@ -46,7 +46,7 @@ AreDueFrom due nodes = (k : ℕ) → k < length nodes → fold due_after due (ta
 pub due_behind : (due : List Square) (n : Node) (nodes : List Node) → AreDueFrom due (n ∷ nodes) → AreDueFrom (due_after due n) nodes
 due_behind due n nodes are k within = are (suc k) (omega arith)
 
-due_before : (box : Square) (due : List Square) (n : Node) (nodes : List Node) → AreDueFrom (due_after (box ∷ due) n) nodes → AreDueFrom (box ∷ due) (n ∷ nodes)
+pub due_before : (box : Square) (due : List Square) (n : Node) (nodes : List Node) → AreDueFrom (due_after (box ∷ due) n) nodes → AreDueFrom (box ∷ due) (n ∷ nodes)
 due_before box due n nodes are zero within none = cc
 due_before box due n nodes are (suc k) within none = are k (omega arith) none
 

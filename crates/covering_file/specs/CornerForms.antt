@@ -2,6 +2,7 @@
 use Rattle.std.specs.Prelude.{◌≡◌, ℕ, ◌+◌, ◌≤◌, List, [], ◌∷◌, ◌++◌, length}
 use Rattle.edge_words.specs.Reading.{Spells, digits_of}
 use Rattle.edge_words.specs.Stable.{IsStable}
+use Rattle.rational_polygon.specs.declared.TheConstants.{MAX_GRID}
 use Rattle.rational_polygon.specs.Outline.{IsInside, IsStrictlyConvex}
 use Rattle.line_grammar.specs.declared.reason.Reason.{Reason}
 use Rattle.line_grammar.specs.declared.reason.Reason.TheVariants.{OtherLine, Number, CornerOutside, NotConvex, NotAWord, UnstableWord}
@@ -9,10 +10,10 @@ use Rattle.line_grammar.specs.Form.{LineForm}
 use Rattle.line_grammar.specs.Text.{IsTwoFields}
 use Rattle.covering_file.specs.Header.{IsStableWord, corner_line}
 
--- two numbers of at most 1,048,576: those of the corner
+-- two numbers, up to the greatest grid: those of the corner
 pub record IsCornerLine (line : List ℕ) (c : ℕ × ℕ) : Type 0 where
-  pub x : c.0 ≤ 1048576
-  pub y : c.1 ≤ 1048576
+  pub x : c.0 ≤ MAX_GRID
+  pub y : c.1 ≤ MAX_GRID
   pub is : line ≡ corner_line c
 
 -- why a line is not a corner inside the triangle of a grid

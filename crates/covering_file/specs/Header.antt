@@ -5,6 +5,8 @@ use Rattle.edge_words.specs.Word.{IsWord}
 use Rattle.edge_words.specs.Stable.{IsStable}
 use Rattle.edge_words.specs.Reading.{digits_of}
 use Rattle.rational_polygon.specs.Outline.{Outline, IsPolygon}
+use Rattle.rational_polygon.specs.declared.TheConstants.{MAX_LEVEL}
+use Rattle.covering_file.specs.declared.TheConstants.{MAX_WORDS}
 use Rattle.covering_file.specs.declared.file_kind.FileKind.{FileKind}
 use Rattle.covering_file.specs.declared.file_kind.FileKind.TheVariants.{Cover, Job}
 use Rattle.line_grammar.specs.Text.{two_fields, named_line, text_of}
@@ -19,10 +21,10 @@ pub record IsStableWord (w : List ℕ) : Type 0 where
   pub stable : IsStable w
 
 abbrev pub IsWordCount : ℕ → Type 0
-IsWordCount count = (1 ≤ count) × (count ≤ 32)
+IsWordCount count = (1 ≤ count) × (count ≤ MAX_WORDS)
 
 abbrev pub IsDepth : ℕ → Type 0
-IsDepth depth = depth ≤ 20
+IsDepth depth = depth ≤ MAX_LEVEL
 
 pub record IsHeading (h : Heading) : Type 0 where
   pub polygon : IsPolygon h.outline

@@ -1,10 +1,10 @@
 -- What follows from the definitions alone.
 use Rattle.std.specs.Prelude.{◌≡◌, ℕ, ◌↔◌, List, [], ◌∷◌, ◌++◌, All, length}
-use Rattle.rat_core.specs.Fraction.{ℚ}
 use Rattle.rational_polygon.specs.Point.{Point}
 use Rattle.rational_polygon.specs.Square.{Square, unit_square, IsInBox}
 use Rattle.rational_polygon.specs.Outline.{IsInPolygon}
 use Rattle.gradient_bounds.specs.Corridor.{HasCorridor}
+use Rattle.gradient_bounds.specs.Slacks.{Slacks}
 use Rattle.covering_file.specs.declared.file_kind.FileKind.{FileKind}
 use Rattle.covering_file.specs.declared.node.Node.{Node}
 use Rattle.covering_file.specs.declared.node.Node.TheVariants.{Shown}
@@ -90,7 +90,7 @@ AcceptedIsCovering = (limit nodes words : ℕ) (bytes : List ℕ) → IsAccepted
 
 -- and its bytes are the text of no other file
 abbrev pub AcceptedIsOne : Type 0
-AcceptedIsOne = (e : ℚ) (nodes words : ℕ) (bytes : List ℕ) (file : IsFileWith e nodes words bytes) (h : Heading) (t : Tree) → IsHeading h
+AcceptedIsOne = (e : Slacks) (nodes words : ℕ) (bytes : List ℕ) (file : IsFileWith e nodes words bytes) (h : Heading) (t : Tree) → IsHeading h
     → bytes ≡ file_text h t → (h ≡ file.heading) × (t ≡ file.tree)
 
 -- a file whose lines can all pass is accepted

@@ -1,7 +1,7 @@
 -- Which verdicts on the bytes of a covering file are right.
 use Rattle.std.specs.Prelude.{◌≡◌, ℕ, ◌≤◌, List, length}
-use Rattle.rat_core.specs.Fraction.{ℚ}
-use Rattle.gradient_bounds.specs.Clear.{slack}
+use Rattle.gradient_bounds.specs.Slacks.{Slacks}
+use Rattle.gradient_bounds.specs.Slacks as slacks
 use Rattle.line_grammar.specs.declared.reason.Reason.{Reason}
 use Rattle.covering_file.specs.Header.{Heading, IsHeading}
 use Rattle.covering_file.specs.Tree.{Tree, preorder, file_text}
@@ -10,8 +10,8 @@ use Rattle.line_grammar.specs.Offence.{IsFirstOffence}
 use Rattle.covering_file.specs.CheckClaims.{check_claims}
 use Rattle.covering_file.specs.FilePart.{file_grammar}
 
--- the bytes are the text of one file, whose tree has so many nodes and is sound with the slack e, and which lists so many words
-pub record IsFileWith (e : ℚ) (nodes words : ℕ) (bytes : List ℕ) : Type 0 where
+-- the bytes are the text of one file, whose tree has so many nodes and is sound with the slacks e, and which lists so many words
+pub record IsFileWith (e : Slacks) (nodes words : ℕ) (bytes : List ℕ) : Type 0 where
   pub heading : Heading
   pub tree : Tree
   pub is_heading : IsHeading heading
@@ -22,7 +22,7 @@ pub record IsFileWith (e : ℚ) (nodes words : ℕ) (bytes : List ℕ) : Type 0 
 
 -- accepted: the text of a file with a sound tree of so many nodes, within the limit
 abbrev pub IsAccepted : ℕ → ℕ → ℕ → List ℕ → Type 0
-IsAccepted limit nodes words bytes = (nodes ≤ limit) × IsFileWith (slack 60) nodes words bytes
+IsAccepted limit nodes words bytes = (nodes ≤ limit) × IsFileWith slacks.sound nodes words bytes
 
 -- refused: this line is the first that can have a reason, and this its least one
 abbrev pub IsRefused : ℕ → ℕ → Reason → List ℕ → Type 0
@@ -30,4 +30,4 @@ IsRefused limit line reason bytes = IsFirstOffence (file_grammar check_claims li
 
 -- the text of a file with a sure tree within the limit
 abbrev pub IsSureFile : ℕ → List ℕ → Type 0
-IsSureFile limit bytes = (nodes words : ℕ) × (nodes ≤ limit) × IsFileWith (slack 40) nodes words bytes
+IsSureFile limit bytes = (nodes words : ℕ) × (nodes ≤ limit) × IsFileWith slacks.sure nodes words bytes

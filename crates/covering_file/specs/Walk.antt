@@ -2,6 +2,7 @@
 use Rattle.std.specs.Prelude.{◌≡◌, ℕ, ◌<◌, ◌≤◌, List, [], ◌∷◌, ◌++◌, drop, length, ⊤, Some, None, option_to_list}
 use Rattle.std.specs.declared.option.Option.{Option}
 use Rattle.rational_polygon.specs.Square.{Square}
+use Rattle.rational_polygon.specs.declared.TheConstants.{MAX_LEVEL}
 use Rattle.covering_file.specs.declared.walk.Level.{Level}
 use Rattle.covering_file.specs.DueBoxes.{children}
 
@@ -19,7 +20,7 @@ children_to_come (level ∷ below) = drop level.next (children level.place) ++ c
 abbrev pub AreBegun : List Level → Type 0
 AreBegun [] = ⊤
 AreBegun (level ∷ below) =
-    (level.next < 4) × (level.place.level < 20) × (length below ≤ level.place.level) × AreBegun below
+    (level.next < 4) × (level.place.level < MAX_LEVEL) × (length below ≤ level.place.level) × AreBegun below
 
 -- the first due box and the begun ones, the last first: where no box is due, none is begun
 abbrev pub IsStack : Option Square → List Level → Type 0

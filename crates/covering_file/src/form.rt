@@ -8,10 +8,8 @@ use crate::{Node, Reason, read_node};
 use edge_words::Word;
 use line_grammar::{Form, two_fields};
 use rat_core::read_decimal;
+use rational_polygon::MAX_GRID;
 use std::alloc::Global;
-
-// The greatest number in a corner.
-const GREATEST: u32 = 1_048_576;
 
 /// Two numbers, which are a corner inside the triangle of the grid.
 #[derive(Clone, Copy)]
@@ -40,7 +38,7 @@ impl Form for Corner {
         let Some((x, y)) = two_fields(line) else {
             return Err(Reason::OtherLine);
         };
-        let (Some(x), Some(y)) = (read_decimal(x, GREATEST), read_decimal(y, GREATEST)) else {
+        let (Some(x), Some(y)) = (read_decimal(x, MAX_GRID), read_decimal(y, MAX_GRID)) else {
             return Err(Reason::Number);
         };
         if is_inside(self.grid, x, y) {
@@ -53,8 +51,8 @@ impl Form for Corner {
 
 // Whether a corner lies strictly inside the triangle of the grid.
 fn is_inside(grid: u32, x: u32, y: u32) -> bool
-    requires x { x ≤ 1048576 }
-    requires y { y ≤ 1048576 }
+    requires x { x ≤ MAX_GRID }
+    requires y { y ≤ MAX_GRID }
     ensures { IsTrue result ↔ IsInside grid (x, y) }
 {
     x >= 1 && y >= 1 && x + y < grid

@@ -5,9 +5,9 @@ ghost use Rattle.covering_file.specs.Header.{IsStableWord, IsWordCount, IsDepth,
 ghost use Rattle.covering_file.specs.Faults.{IsFirstUnstable, IsFaultOf};
 ghost use Rattle.covering_file.specs.declared.fault.HeaderFault.{HeaderFault};
 
-use crate::fault::HeaderFault;
+use crate::{HeaderFault, MAX_WORDS};
 use edge_words::Word;
-use rational_polygon::Polygon;
+use rational_polygon::{MAX_LEVEL, Polygon};
 use std::marker::Model;
 
 /// A polygon, 1 to 32 stable words and a depth from 0 to 20: what a covering is of, what it may use, and how deep its tree may be.
@@ -76,13 +76,13 @@ impl Header {
 fn first_fault(words: &[Word], depth: u32) -> Option<HeaderFault>
     ensures { MatchOption result (IsWordCount (length words.now) × All IsStableWord words.now × IsDepth depth) (IsFaultOf words.now depth) }
 {
-    if !(1..=32).contains(&words.len()) {
+    if !(1..=MAX_WORDS as usize).contains(&words.len()) {
         return Some(HeaderFault::Words);
     }
     if let Some(i) = first_unstable(words) {
         return Some(HeaderFault::Unstable { i });
     }
-    if depth > 20 {
+    if depth > MAX_LEVEL {
         return Some(HeaderFault::Depth);
     }
     None
@@ -90,7 +90,7 @@ fn first_fault(words: &[Word], depth: u32) -> Option<HeaderFault>
 
 // The number of the first word that is not stable.
 fn first_unstable(words: &[Word]) -> Option<u32>
-    requires { length words.now ≤ 32 }
+    requires { length words.now ≤ MAX_WORDS }
     ensures { MatchOption result (All IsStableWord words.now) (IsFirstUnstable words.now) }
 {
     for (k, word) in words.iter().enumerate() {

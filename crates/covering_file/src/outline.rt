@@ -1,7 +1,7 @@
 //! The lines of a polygon.
 ghost use Rattle.std.specs.Prelude.{◌≡◌, ℕ, ◌+◌, ◌^◌, ◌≤◌, false, [], ◌∷◌, ◌++◌, All, length, IfOk, IfErr};
 ghost use Rattle.mcb_ends.specs.Causes.{HasCauseWhere};
-ghost use Rattle.rational_polygon.specs.Outline.{IsGrid, IsCount, IsInside};
+ghost use Rattle.rational_polygon.specs.Outline.{IsGrid, IsCount, IsInside, IsPolygon};
 ghost use Rattle.line_grammar.specs.Part.{line_part};
 ghost use Rattle.line_grammar.specs.Reading.{ReadsPart, TakesPart, FailsPart};
 ghost use Rattle.covering_file.specs.CornerForms.{next_corner_form};
@@ -12,7 +12,7 @@ use crate::form::Corner;
 use crate::{HeadFault, Reason};
 use line_grammar::{Numbered, take};
 use mcb_ends::{LineReader, OutOfMemory, Source};
-use rational_polygon::Polygon;
+use rational_polygon::{MAX_CORNERS, MAX_GRID, MIN_CORNERS, Polygon};
 use std::alloc::Global;
 
 /// Reads the lines from the grid to the last corner.
@@ -30,7 +30,7 @@ pub(crate) fn read_outline<S: Source>(
         &Numbered {
             name: b"grid",
             low: 1,
-            high: 1_048_576,
+            high: MAX_GRID,
         },
         lines,
         src,
@@ -38,8 +38,8 @@ pub(crate) fn read_outline<S: Source>(
     let count = take(
         &Numbered {
             name: b"polygon",
-            low: 3,
-            high: 16,
+            low: MIN_CORNERS as u32,
+            high: MAX_CORNERS as u32,
         },
         lines,
         src,
@@ -90,6 +90,7 @@ fn last_corner<S: Source>(
     ensures corner { IfOk result (λ outline. (c : ℕ × ℕ) × (outline ≡ record { grid = grid; corners = corners.items ++ c ∷ [] })
         × TakesPart (line_part (next_corner_form grid (length corners.items + 1) corners.items)) lines.old lines.new
             (S.left src.old) (S.left src.new) c) }
+    ensures is_polygon { IfOk result IsPolygon }
     ensures fails { IfErr result (λ fault. FailsPart
         (line_part (next_corner_form grid (length corners.items + 1) corners.items)).grammar lines.old lines.new
         (S.left src.old) (S.left src.new) (head_refusal fault)) }

@@ -11,6 +11,7 @@ use crate::words::read_words;
 use crate::{FileKind, HeadFault, Header, Reason};
 use line_grammar::{Numbered, Whole, take};
 use mcb_ends::{LineReader, Source};
+use rational_polygon::MAX_LEVEL;
 use std::alloc::Global;
 
 /// Reads a header, from the first line to the depth. What stands after it is left to the reader.
@@ -44,7 +45,7 @@ pub fn read_header<S: Source>(
         &Numbered {
             name: b"depth",
             low: 0,
-            high: 20,
+            high: MAX_LEVEL,
         },
         lines,
         src,

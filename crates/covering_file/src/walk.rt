@@ -5,13 +5,13 @@ ghost use Rattle.covering_file.specs.DueBoxes.{due_after, first_of};
 ghost use Rattle.covering_file.specs.Walk.{children_to_come, AreBegun, IsStack, due_of};
 
 use crate::Node;
-use rational_polygon::GridBox;
+use rational_polygon::{GridBox, MAX_LEVEL};
 use smallvec::SmallVec;
 use std::alloc::Global;
 use std::marker::Model;
 
 // The levels at which a box may be split.
-pub const LEVELS: usize = 20;
+pub const LEVELS: usize = MAX_LEVEL as usize;
 
 /// A box whose tree is begun, and the number of its next child.
 #[derive(Clone, Copy, Debug, Default)]
@@ -24,7 +24,7 @@ impl Level {
     // The next child.
     fn child(&self) -> GridBox
         requires next { self.now.next < 4 }
-        requires level { self.now.place.level < 20 }
+        requires level { self.now.place.level < MAX_LEVEL }
         ensures { result ≡ child self.now.place self.now.next }
     {
         self.place.child(self.next)
@@ -42,6 +42,7 @@ pub struct Walk {
 
 impl Model for Walk {
     ghost use Rattle.std.specs.Prelude.{◌≡◌, ◌≤◌, reverse};
+    ghost use Rattle.rational_polygon.specs.declared.TheConstants.{MAX_LEVEL};
     ghost use Rattle.covering_file.specs.Walk.{Frontier, IsStack, due_of};
     ghost use Rattle.covering_file.specs.declared.walk.TheConstants.{LEVELS};
 
@@ -49,13 +50,13 @@ impl Model for Walk {
 
     ghost view = { λ w. record { depth = w.depth; due = due_of w.due (reverse w.begun.items) } };
 
-    ghost invariant = { λ w. (w.depth ≤ 20) × (w.begun.capacity ≡ LEVELS) × IsStack w.due (reverse w.begun.items) };
+    ghost invariant = { λ w. (w.depth ≤ MAX_LEVEL) × (w.begun.capacity ≡ LEVELS) × IsStack w.due (reverse w.begun.items) };
 }
 
 impl Walk {
     /// Before the first node of a tree of this depth. The unit square is due.
     pub fn new(alloc: Global, depth: u32) -> Walk
-        requires { depth ≤ 20 }
+        requires { depth ≤ MAX_LEVEL }
         ensures { result ≡ record { depth = depth; due = unit_square ∷ [] } }
     {
         Walk {

@@ -5,7 +5,7 @@ ghost use Rattle.line_grammar.specs.Reading.{TakesPart, FailsPart};
 ghost use Rattle.covering_file.specs.Faults.{head_refusal, is_head_read};
 ghost use Rattle.covering_file.specs.HeaderPart.{words_part, listed_part};
 
-use crate::HeadFault;
+use crate::{HeadFault, MAX_WORDS};
 use crate::form::StableWord;
 use edge_words::Word;
 use line_grammar::{Numbered, take};
@@ -29,7 +29,7 @@ pub(crate) fn read_words<S: Source>(
         &Numbered {
             name: b"words",
             low: 1,
-            high: 32,
+            high: MAX_WORDS,
         },
         lines,
         src,
@@ -44,7 +44,7 @@ fn read_listed<S: Source>(
     lines: &mut LineReader,
     src: &mut S,
 ) -> Result<Vec<Word>, HeadFault>
-    requires count { count ≤ 32 }
+    requires count { count ≤ MAX_WORDS }
     requires few { lines.old.number ≤ 2 ^ 31 + 20 }
     requires reading { lines.old.is_done ≡ false }
     ensures words { IfOk result (λ words. TakesPart (listed_part count) lines.old lines.new (S.left src.old) (S.left src.new) words.items) }

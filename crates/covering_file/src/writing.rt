@@ -6,7 +6,7 @@ ghost use Rattle.covering_file.specs.Header.{corner_line, outline_lines, words_l
 ghost use Rattle.covering_file.specs.Node.{node_line, end_line};
 ghost use Rattle.line_grammar.specs.Text.{named_line, text_of, with_newline};
 
-use crate::{FileKind, Header, Node};
+use crate::{FileKind, Header, MAX_WORDS, Node};
 use edge_words::Word;
 use mcb_ends::{Decimal, Failed, Sink, put, put_all};
 use rational_polygon::Polygon;
@@ -103,7 +103,7 @@ fn write_corner<K: Sink>(corner: (u32, u32), out: &mut K) -> Result<(), Failed>
 }
 
 fn write_words<K: Sink>(words: &[Word], out: &mut K) -> Result<(), Failed>
-    requires { length words.now ≤ 32 }
+    requires { length words.now ≤ MAX_WORDS }
     ensures text { Writes (K.written out.old) (K.written out.new) result (text_of (words_lines words.now)) }
     ensures room { K.room out.new ≡ K.room out.old }
     ensures cause { HasCause (K.faults out.old) (K.faults out.new) result }

@@ -8,4 +8,6 @@ pub mod Offending
 pub mod Taken
 pub mod Parts
 pub mod Steps
+pub mod Counted
+pub mod Refused
 pub mod Laws

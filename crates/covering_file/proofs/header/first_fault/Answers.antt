@@ -2,5 +2,5 @@ use Rattle.std.proofs.Common.{arith, rules}
 use Rattle.covering_file.proofs.HeaderFaults.{stable_words}
 use Rattle.covering_file.proofs.header.first_fault.Goals as goal
 
-pub returns-then-depth-gt20 : goal.returns-then-depth-gt20
-returns-then-depth-gt20 c = (search rules, stable_words c.args.words.now c.in_default.ensures, λ deep. omega (arith, deep, c.if-depth-gt20.true))
+pub returns-then-depth-gt-MAX_LEVEL : goal.returns-then-depth-gt-MAX_LEVEL
+returns-then-depth-gt-MAX_LEVEL c = (search rules, stable_words c.args.words.now c.in_default.ensures, λ deep. omega (arith, deep, c.if-depth-gt-MAX_LEVEL.true))

@@ -1,134 +1,110 @@
-use Rattle.std.proofs.Common.{◌≡◌, ℕ, List, [], Option, length, codes, arith, refl, subst}
+use Rattle.std.proofs.Common.{◌≡◌, ◌+◌, ◌≤◌, List, ℕ, [], length, codes, arith, subst, sym, ◌∙◌, refl, Err}
 use Rattle.std.proofs.lemmas.Result.{err_from_is_err_and}
+use Rattle.mcb_ends.specs.Reader.{bytes_before}
+use Rattle.line_grammar.specs.Input.{IsNew}
 use Rattle.covering_file.specs.declared.file_kind.FileKind.TheVariants.{Job}
-use Rattle.covering_file.specs.Faults.{WantsMemory}
-use Rattle.covering_file.specs.Header.{header_lines, job_lines}
-use Rattle.covering_file.specs.Input.{IsNew}
-use Rattle.covering_file.specs.JobOffence.{job_grammar}
-use Rattle.covering_file.proofs.JobParts.{header_in_job, end_line_fails, after_fails, to_end, job_is, job_fault}
-use Rattle.covering_file.proofs.Parts.{new_bytes, fails_later, stops_there}
-use Rattle.covering_file.proofs.Wanting.{wants_none}
+use Rattle.covering_file.proofs.JobParts.{from_line}
+use Rattle.covering_file.specs.Header.{Heading}
+use Rattle.covering_file.proofs.HeadLines.{end_is_form}
+use Rattle.covering_file.proofs.JobParts.{header_in_job, end_fails, after_fails, job_taken, wants_new, begins_new}
+use Rattle.covering_file.proofs.Wanting.{wants_none, wants_if_err}
 use Rattle.covering_file.proofs.job.read_job.Goals as goal
 
-pub returns-in_err-header-clause-refused : goal.returns-in_err-header-clause-refused
-returns-in_err-header-clause-refused g c =
+pub take-requires-clause-form : goal.take-requires-clause-form
+take-requires-clause-form g c = end_is_form
+
+pub returns-in_err-header-clause-reads : goal.returns-in_err-header-clause-reads
+returns-in_err-header-clause-reads g c =
     let left = g.S.Source.left in
     let old = c.new-lines.result in
-    let fresh : IsNew old = record { held = c.new-lines.ensures.held; done = c.new-lines.ensures.done; number = c.new-lines.ensures.number } in
-    let fault = c.in_err-header.field-0.0 in
-    let fails = header_in_job [] old (left c.args.src.now) (left c.take_header.new.src) fault c.in_err-header.ensures.refused in
+    let mid = c.read_header.new.lines in
+    let a = left c.args.src.now in
+    let b = left c.read_header.new.src in
+    let new : IsNew old = record { held = c.new-lines.ensures.held; done = c.new-lines.ensures.done; number = c.new-lines.ensures.number } in
     let p = err_from_is_err_and c.from_residual.result c.from_residual.ensures.1 in
-    rw (p.1, p.2) (job_fault job_grammar old (left c.args.src.now) (left c.take_header.new.src) fault fresh fails)
+    rw (p.1, p.2)
+    (record { old = old; new = mid; is_new = new; reads = header_in_job old mid a b _ new.done c.in_err-header.ensures.reads })
 
-pub returns-in_err-header-clause-stops : goal.returns-in_err-header-clause-stops
-returns-in_err-header-clause-stops g c =
+pub returns-in_err-take-clause-reads : goal.returns-in_err-take-clause-reads
+returns-in_err-take-clause-reads g c =
     let left = g.S.Source.left in
     let old = c.new-lines.result in
-    let fresh : IsNew old = record { held = c.new-lines.ensures.held; done = c.new-lines.ensures.done; number = c.new-lines.ensures.number } in
-    let fault = c.in_err-header.field-0.0 in
-    let fails = header_in_job [] old (left c.args.src.now) (left c.take_header.new.src) fault c.in_err-header.ensures.refused in
-    let p = err_from_is_err_and c.from_residual.result c.from_residual.ensures.1 in
-    rw (p.1, p.2) (stops_there job_grammar old (left c.args.src.now) (left c.take_header.new.src) fault fresh fails)
-
-pub returns-in_err-take-clause-refused : goal.returns-in_err-take-clause-refused
-returns-in_err-take-clause-refused g c =
-    let left = g.S.Source.left in
-    let old = c.new-lines.result in
-    let fresh : IsNew old = record { held = c.new-lines.ensures.held; done = c.new-lines.ensures.done; number = c.new-lines.ensures.number } in
-    let h = c.in_ok-header.header in
-    let heading = c.in_ok-header.ensures.is_heading in
-    let header = c.in_ok-header.ensures.taken in
-    let mid = c.take_header.new.lines in
-    let fault = c.in_err-take.field-0.0 in
-    let at : mid.number ≡ length (header_lines Job h) = omega (arith, header.number, c.new-lines.ensures.number) in
-    let fails = fails_later job_grammar [] (header_lines Job h) old mid (left c.args.src.now) (left c.take_header.new.src) (left c.take.new.src) fault header
-    (end_line_fails h (codes "end") mid c.take.new.lines (left c.take_header.new.src) (left c.take.new.src) fault refl heading at c.in_err-take.ensures.due c.take.ensures.stops) in
+    let mid = c.read_header.new.lines in
+    let a = left c.args.src.now in
+    let b = left c.read_header.new.src in
+    let new : IsNew old = record { held = c.new-lines.ensures.held; done = c.new-lines.ensures.done; number = c.new-lines.ensures.number } in
     let p = err_from_is_err_and c.from_residual-in_err-take.result c.from_residual-in_err-take.ensures.1 in
-    rw (p.1, p.2) (job_fault job_grammar old (left c.args.src.now) (left c.take.new.src) fault fresh fails)
+    rw (p.1, p.2)
+    (record {
+      old = old;
+      new = c.take.new.lines;
+      is_new = new;
+      reads = from_line c.in_err-take.field-0.0 old c.take.new.lines a (left c.take.new.src)
+          (end_fails c.in_ok-header.header old mid c.take.new.lines a b (left c.take.new.src) _ new.done c.in_ok-header.ensures.reads c.in_err-take.ensures.reads);
+    })
 
-pub returns-in_err-take-clause-stops : goal.returns-in_err-take-clause-stops
-returns-in_err-take-clause-stops g c =
+pub returns-in_err-end_of_input-clause-reads : goal.returns-in_err-end_of_input-clause-reads
+returns-in_err-end_of_input-clause-reads g c =
     let left = g.S.Source.left in
     let old = c.new-lines.result in
-    let fresh : IsNew old = record { held = c.new-lines.ensures.held; done = c.new-lines.ensures.done; number = c.new-lines.ensures.number } in
-    let h = c.in_ok-header.header in
-    let heading = c.in_ok-header.ensures.is_heading in
-    let header = c.in_ok-header.ensures.taken in
-    let mid = c.take_header.new.lines in
-    let fault = c.in_err-take.field-0.0 in
-    let at : mid.number ≡ length (header_lines Job h) = omega (arith, header.number, c.new-lines.ensures.number) in
-    let fails = fails_later job_grammar [] (header_lines Job h) old mid (left c.args.src.now) (left c.take_header.new.src) (left c.take.new.src) fault header
-    (end_line_fails h (codes "end") mid c.take.new.lines (left c.take_header.new.src) (left c.take.new.src) fault refl heading at c.in_err-take.ensures.due c.take.ensures.stops) in
-    let p = err_from_is_err_and c.from_residual-in_err-take.result c.from_residual-in_err-take.ensures.1 in
-    rw (p.1, p.2) (stops_there job_grammar old (left c.args.src.now) (left c.take.new.src) fault fresh fails)
-
-pub returns-in_err-end_of_input-clause-refused : goal.returns-in_err-end_of_input-clause-refused
-returns-in_err-end_of_input-clause-refused g c =
-    let left = g.S.Source.left in
-    let old = c.new-lines.result in
-    let fresh : IsNew old = record { held = c.new-lines.ensures.held; done = c.new-lines.ensures.done; number = c.new-lines.ensures.number } in
-    let h = c.in_ok-header.header in
-    let heading = c.in_ok-header.ensures.is_heading in
-    let header = c.in_ok-header.ensures.taken in
-    let mid = c.take_header.new.lines in
-    let read = c.in_ok-take.ensures.due in
-    let new = c.take.new.lines in
-    let before = to_end h read.line (codes "end") old mid new (left c.args.src.now) (left c.take_header.new.src) (left c.take.new.src) header refl read.read read.taken in
-    let fault = c.in_err-end_of_input.field-0.0 in
-    let at : new.number ≡ length (job_lines h) = omega (arith, before.number, c.new-lines.ensures.number) in
-    let fails = fails_later job_grammar [] (job_lines h) old new (left c.args.src.now) (left c.take.new.src) (left c.end_of_input.new.src) fault before
-    (after_fails h new c.end_of_input.new.lines (left c.take.new.src) (left c.end_of_input.new.src) fault heading at c.in_err-end_of_input.ensures.ends c.end_of_input.ensures.stops) in
+    let mid = c.read_header.new.lines in
+    let a = left c.args.src.now in
+    let b = left c.read_header.new.src in
+    let new : IsNew old = record { held = c.new-lines.ensures.held; done = c.new-lines.ensures.done; number = c.new-lines.ensures.number } in
     let p = err_from_is_err_and c.from_residual-in_err-end_of_input.result c.from_residual-in_err-end_of_input.ensures.1 in
-    rw (p.1, p.2) (job_fault job_grammar old (left c.args.src.now) (left c.end_of_input.new.src) fault fresh fails)
+    rw (p.1, p.2)
+    (record {
+      old = old;
+      new = c.end_of_input.new.lines;
+      is_new = new;
+      reads = from_line c.in_err-end_of_input.field-0.0 old c.end_of_input.new.lines a (left c.end_of_input.new.src)
+          (after_fails c.in_ok-header.header old mid c.take.new.lines c.end_of_input.new.lines a b (left c.take.new.src) (left c.end_of_input.new.src) _
+          c.in_ok-header.ensures.reads c.in_ok-take.ensures.reads c.in_err-end_of_input.ensures.reads);
+    })
 
-pub returns-in_err-end_of_input-clause-stops : goal.returns-in_err-end_of_input-clause-stops
-returns-in_err-end_of_input-clause-stops g c =
+pub returns-clause-reads : goal.returns-clause-reads
+returns-clause-reads g c =
     let left = g.S.Source.left in
     let old = c.new-lines.result in
-    let fresh : IsNew old = record { held = c.new-lines.ensures.held; done = c.new-lines.ensures.done; number = c.new-lines.ensures.number } in
-    let h = c.in_ok-header.header in
-    let heading = c.in_ok-header.ensures.is_heading in
-    let header = c.in_ok-header.ensures.taken in
-    let mid = c.take_header.new.lines in
-    let read = c.in_ok-take.ensures.due in
-    let new = c.take.new.lines in
-    let before = to_end h read.line (codes "end") old mid new (left c.args.src.now) (left c.take_header.new.src) (left c.take.new.src) header refl read.read read.taken in
-    let fault = c.in_err-end_of_input.field-0.0 in
-    let at : new.number ≡ length (job_lines h) = omega (arith, before.number, c.new-lines.ensures.number) in
-    let fails = fails_later job_grammar [] (job_lines h) old new (left c.args.src.now) (left c.take.new.src) (left c.end_of_input.new.src) fault before
-    (after_fails h new c.end_of_input.new.lines (left c.take.new.src) (left c.end_of_input.new.src) fault heading at c.in_err-end_of_input.ensures.ends c.end_of_input.ensures.stops) in
-    let p = err_from_is_err_and c.from_residual-in_err-end_of_input.result c.from_residual-in_err-end_of_input.ensures.1 in
-    rw (p.1, p.2) (stops_there job_grammar old (left c.args.src.now) (left c.end_of_input.new.src) fault fresh fails)
-
-pub returns-clause-header : goal.returns-clause-header
-returns-clause-header g c =
-    let left = g.S.Source.left in
-    let old = c.new-lines.result in
-    let fresh : IsNew old = record { held = c.new-lines.ensures.held; done = c.new-lines.ensures.done; number = c.new-lines.ensures.number } in
-    let h = c.in_ok-header.header in
-    let heading = c.in_ok-header.ensures.is_heading in
-    let header = c.in_ok-header.ensures.taken in
-    let mid = c.take_header.new.lines in
-    let read = c.in_ok-take.ensures.due in
-    let new = c.take.new.lines in
-    let before = to_end h read.line (codes "end") old mid new (left c.args.src.now) (left c.take_header.new.src) (left c.take.new.src) header refl read.read read.taken in
-    job_is h old new (left c.args.src.now) (left c.take.new.src) fresh before c.in_ok-end_of_input.ensures.ends.0
+    let mid = c.read_header.new.lines in
+    let a = left c.args.src.now in
+    let b = left c.read_header.new.src in
+    let new : IsNew old = record { held = c.new-lines.ensures.held; done = c.new-lines.ensures.done; number = c.new-lines.ensures.number } in
+    record {
+      old = old;
+      new = c.end_of_input.new.lines;
+      is_new = new;
+      reads = job_taken c.in_ok-header.header old mid c.take.new.lines a b (left c.take.new.src) (left c.end_of_input.new.src)
+          c.in_ok-header.ensures.reads c.in_ok-take.ensures.reads c.in_ok-end_of_input.ensures.reads;
+    }
 
 pub returns-in_err-header-clause-wanting : goal.returns-in_err-header-clause-wanting
 returns-in_err-header-clause-wanting g c =
     let left = g.S.Source.left in
     let old = c.new-lines.result in
-    let fresh : IsNew old = record { held = c.new-lines.ensures.held; done = c.new-lines.ensures.done; number = c.new-lines.ensures.number } in
-    let fault = c.in_err-header.field-0.0 in
+    let mid = c.read_header.new.lines in
+    let a = left c.args.src.now in
+    let b = left c.read_header.new.src in
+    let new : IsNew old = record { held = c.new-lines.ensures.held; done = c.new-lines.ensures.done; number = c.new-lines.ensures.number } in
     let p = err_from_is_err_and c.from_residual.result c.from_residual.ensures.1 in
-    rw (p.1, p.2) (subst (λ (input : Option (List ℕ)). WantsMemory Job input fault) (new_bytes old (left c.args.src.now) fresh) c.in_err-header.ensures.wanting)
+    rw (p.1, p.2) (wants_new {T = Heading} Job old a (Err c.in_err-header.field-0.0) new c.in_err-header.ensures.wanting)
 
 pub returns-in_err-take-clause-wanting : goal.returns-in_err-take-clause-wanting
 returns-in_err-take-clause-wanting g c =
-    let p = err_from_is_err_and c.from_residual-in_err-take.result c.from_residual-in_err-take.ensures.1 in
-    rw (p.1, p.2) (wants_none Job (g.S.Source.left c.args.src.now) c.in_err-take.field-0.0 c.in_err-take.ensures.no_memory)
+    let left = g.S.Source.left in
+    let old = c.new-lines.result in
+    let mid = c.read_header.new.lines in
+    let a = left c.args.src.now in
+    let b = left c.read_header.new.src in
+    let new : IsNew old = record { held = c.new-lines.ensures.held; done = c.new-lines.ensures.done; number = c.new-lines.ensures.number } in
+    wants_if_err Job a c.from_residual-in_err-take.result (begins_new Job c.in_ok-header.header old mid a b new c.in_ok-header.ensures.reads)
 
 pub returns-in_err-end_of_input-clause-wanting : goal.returns-in_err-end_of_input-clause-wanting
 returns-in_err-end_of_input-clause-wanting g c =
-    let p = err_from_is_err_and c.from_residual-in_err-end_of_input.result c.from_residual-in_err-end_of_input.ensures.1 in
-    rw (p.1, p.2) (wants_none Job (g.S.Source.left c.args.src.now) c.in_err-end_of_input.field-0.0 c.in_err-end_of_input.ensures.no_memory)
+    let left = g.S.Source.left in
+    let old = c.new-lines.result in
+    let mid = c.read_header.new.lines in
+    let a = left c.args.src.now in
+    let b = left c.read_header.new.src in
+    let new : IsNew old = record { held = c.new-lines.ensures.held; done = c.new-lines.ensures.done; number = c.new-lines.ensures.number } in
+    wants_if_err Job a c.from_residual-in_err-end_of_input.result (begins_new Job c.in_ok-header.header old mid a b new c.in_ok-header.ensures.reads)

@@ -1,4 +1,4 @@
-use Rattle.covering_file.proofs.OneOffence.{header_offence_is_one, job_offence_is_one}
+use Rattle.covering_file.proofs.HeaderLaws.{header_offence_is_one, job_offence_is_one}
 use Rattle.covering_file.proofs.laws.offence_is_one.Goals as goal
 
 pub returns-clause-header : goal.returns-clause-header

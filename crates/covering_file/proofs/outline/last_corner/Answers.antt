@@ -1,47 +1,37 @@
 use Rattle.std.proofs.Common.{◌≡◌, ◌+◌, false, true, length, refl, arith, sym, ◌∙◌, subst}
 use Rattle.std.proofs.lemmas.Result.{err_from_is_err_and}
-use Rattle.std.proofs.lemmas.List.{length-map}
 use Rattle.rational_polygon.specs.Outline.{IsPolygon}
-use Rattle.covering_file.specs.declared.reason.Reason.TheVariants.{NotConvex}
-use Rattle.covering_file.specs.Forms.{ReadsCorner}
-use Rattle.covering_file.specs.Header.{corner_line}
-use Rattle.covering_file.specs.HeaderDue.{DueCorner, IsReached, lines_before}
-use Rattle.covering_file.specs.Taking.{StopsBehind}
-use Rattle.covering_file.proofs.FormReasons.{corner_refused, convex_least}
-use Rattle.covering_file.proofs.LastCorner.{not_convex}
-use Rattle.covering_file.proofs.Parts.{due_fails, taken_offends}
+use Rattle.line_grammar.specs.Faults.{Refusal}
+use Rattle.line_grammar.specs.Part.{line_part}
+use Rattle.line_grammar.specs.Reading.{FailsPart}
+use Rattle.covering_file.specs.CornerForms.{next_corner_form}
+use Rattle.covering_file.proofs.CornerForms.{corner_is_form}
+use Rattle.covering_file.proofs.HeadFaults.{same_refusal}
+use Rattle.covering_file.proofs.NextCorner.{next_fails, last_refused, not_convex}
 use Rattle.covering_file.proofs.Pushed.{pushed}
 use Rattle.covering_file.proofs.outline.last_corner.Goals as goal
 
-pub returns-in_err-corner-clause-refused : goal.returns-in_err-corner-clause-refused
-returns-in_err-corner-clause-refused g c kind =
-    let left = g.S.Source.left in
-    let steps = c.args.grid in
-    let cs = c.args.corners.items in
-    let count = length cs + 1 in
-    let due = DueCorner steps count cs in
-    let reached : IsReached due = (c.requires.grid, c.requires.count, omega arith, c.requires.inside) in
-    let at : c.args.lines.now.number ≡ length (lines_before kind due) = omega (arith, c.requires.last, length-map cs corner_line) in
-    let p = err_from_is_err_and c.from_residual.result c.from_residual.ensures.1 in
-    rw (p.1, p.2)
-    (due_fails kind due (ReadsCorner steps) c.args.lines.now c.take.new.lines (left c.args.src.now) (left c.take.new.src) c.in_err-corner.field-0.0 reached (corner_refused kind steps count cs) at c.in_err-corner.ensures.due c.take.ensures.stops)
+pub take-requires-clause-form : goal.take-requires-clause-form
+take-requires-clause-form g c = corner_is_form c.args.grid
 
-pub returns-in-Err-clause-refused : goal.returns-in-Err-clause-refused
-returns-in-Err-clause-refused g c kind =
+pub returns-in_err-corner-clause-fails : goal.returns-in_err-corner-clause-fails
+returns-in_err-corner-clause-fails g c =
     let left = g.S.Source.left in
-    let steps = c.args.grid in
+    let grid = c.args.grid in
     let cs = c.args.corners.items in
-    let count = length cs + 1 in
-    let due = DueCorner steps count cs in
+    let p = err_from_is_err_and c.from_residual.result c.from_residual.ensures.1 in
+    rw (p.1, p.2, same_refusal c.in_err-corner.field-0.0)
+    (next_fails grid (length cs + 1) cs c.args.lines.now c.take.new.lines (left c.args.src.now) (left c.take.new.src) _ c.in_err-corner.ensures.reads)
+
+pub returns-in-Err-clause-fails : goal.returns-in-Err-clause-fails
+returns-in-Err-clause-fails g c =
+    let left = g.S.Source.left in
+    let grid = c.args.grid in
+    let cs = c.args.corners.items in
     let corner = c.in_ok-corner.corner in
-    let read = c.in_ok-corner.ensures.due in
-    let old = c.args.lines.now in
-    let reached : IsReached due = (c.requires.grid, c.requires.count, omega arith, c.requires.inside) in
-    let at : old.number ≡ length (lines_before kind due) = omega (arith, c.requires.last, length-map cs corner_line) in
+    let takes = c.in_ok-corner.ensures.reads in
     let more = pushed cs c.push.new.self.items corner c.push.result c.map_err.result c.in_ok-map_err.field-0 c.push.ensures.items c.map_err.ensures.variant c.in_ok-map_err.was in
-    let other : ¬ IsPolygon (record { grid = steps; corners = c.push.new.self.items }) = λ polygon. let ok : false ≡ true = c.in-Err.ensures.polygon.1 polygon in cc in
-    let least = convex_least kind steps count cs read.line corner read.read.0 read.read.1 refl (not_convex steps cs c.push.new.self.items corner more c.requires.grid c.requires.count c.requires.inside read.read.1 other) in
-    let here : c.number.result ≡ old.number + 1 = c.number.ensures ∙ read.taken.number in (
-      taken_offends kind due read.line NotConvex old c.take.new.lines (left c.args.src.now) (left c.take.new.src) c.number.result reached least read.taken at here,
-      subst (λ n. StopsBehind n old (left c.args.src.now) (left c.take.new.src)) (sym here) c.take.ensures.stops,
-    )
+    let other : ¬ IsPolygon (record { grid = grid; corners = c.push.new.self.items }) = λ polygon. let ok : false ≡ true = c.in-Err.ensures.polygon.1 polygon in cc in
+    let convex = not_convex grid cs c.push.new.self.items corner more c.requires.grid c.requires.count c.requires.inside takes.says.1 other in
+    last_refused grid (length cs + 1) cs corner c.args.lines.now c.take.new.lines (left c.args.src.now) (left c.take.new.src) c.number.result
+    (c.number.ensures ∙ takes.taken.number) (record { last = refl; not_convex = convex }) takes c.take.ensures.stops

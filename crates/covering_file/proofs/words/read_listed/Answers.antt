@@ -1,45 +1,58 @@
-use Rattle.std.proofs.Common.{◌≡◌, ◌+◌, ◌<◌, ℕ, List, [], map, length, arith, ◌∙◌, ap, sym, subst}
+use Rattle.std.proofs.Common.{None, ◌≡◌, ◌+◌, ◌<◌, ℕ, List, [], ◌∷◌, ◌++◌, length, arith, ◌∙◌, sym, subst}
 use Rattle.std.proofs.lemmas.Result.{err_from_is_err_and}
-use Rattle.edge_words.specs.Reading.{digits_of}
-use Rattle.covering_file.specs.Forms.{ReadsWord}
-use Rattle.covering_file.specs.Header.{IsStableWord}
-use Rattle.covering_file.specs.HeaderDue.{DueWord, IsReached, lines_before}
-use Rattle.covering_file.specs.HeaderOffence.{header_grammar}
-use Rattle.covering_file.proofs.FormReasons.{word_refused}
-use Rattle.covering_file.proofs.Parts.{due_fails, fails_later}
-use Rattle.covering_file.proofs.Pushed.{pushed, all_more, length_more, lines_more}
-use Rattle.covering_file.specs.Taking.{FailsBehind}
-use Rattle.covering_file.proofs.WordLines.{behind_words, count_behind_words}
+use Rattle.line_grammar.specs.Reading.{TakesPart}
+use Rattle.covering_file.proofs.CornerForms.{word_is_form}
+use Rattle.covering_file.proofs.HeadFaults.{same_refusal}
+use Rattle.covering_file.proofs.HeaderParts.{word_turn_fails, word_turn_taken, listed_so_far, all_listed}
+use Rattle.covering_file.proofs.Pushed.{pushed, length_more}
 use Rattle.covering_file.proofs.words.read_listed.Goals as goal
 
-pub returns-in_err-word-clause-refused : goal.returns-in_err-word-clause-refused
-returns-in_err-word-clause-refused g c kind outline polygon at =
+pub take-requires-clause-form : goal.take-requires-clause-form
+take-requires-clause-form g c = word_is_form
+
+pub take-requires-clause-reading : goal.take-requires-clause-reading
+take-requires-clause-reading g c = c.words.invariant.takes.taken.reading
+
+pub take-requires-clause-few : goal.take-requires-clause-few
+take-requires-clause-few g c = omega (arith, c.words.invariant.number, c.words.invariant.count, c.requires.few, c.requires.count, c.words-test.true)
+
+pub returns-in_err-word-clause-fails : goal.returns-in_err-word-clause-fails
+returns-in_err-word-clause-fails g c =
     let left = g.S.Source.left in
     let count = c.args.count in
     let ws = c.words.words.items in
     let kept = c.words.invariant in
-    let fault = c.in_err-word.field-0.0 in
-    let fewer : length ws < count = omega arith in
-    let reached : IsReached (DueWord outline count ws) = (polygon, c.requires.count, fewer, kept.stable) in
-    let here : c.words.lines.number ≡ length (lines_before kind (DueWord outline count ws)) = kept.taken.number ∙ ap (λ n. n + length (map digits_of ws)) at ∙ count_behind_words kind outline count ws in
-    let fails = due_fails kind (DueWord outline count ws) ReadsWord c.words.lines c.take.new.lines (left c.words.src) (left c.take.new.src) fault reached (word_refused kind outline count ws) here c.in_err-word.ensures.due c.take.ensures.stops in
+    let fewer : length ws < count = omega (arith, kept.count, c.words-test.true) in
     let p = err_from_is_err_and c.from_residual.result c.from_residual.ensures.1 in
+    rw (p.1, p.2, same_refusal c.in_err-word.field-0.0)
+    (word_turn_fails count ws c.args.lines.now c.words.lines c.take.new.lines (left c.args.src.now) (left c.words.src) (left c.take.new.src) _ kept.takes fewer c.in_err-word.ensures.reads)
+
+pub returns-in_err-map_err-clause-fails : goal.returns-in_err-map_err-clause-fails
+returns-in_err-map_err-clause-fails g c =
+    let left = g.S.Source.left in
+    let count = c.args.count in
+    let ws = c.words.words.items in
+    let kept = c.words.invariant in
+    let fewer : length ws < count = omega (arith, kept.count, c.words-test.true) in
+    let p = err_from_is_err_and c.from_residual-in_err-map_err.result c.from_residual-in_err-map_err.ensures.1 in
     rw (p.1, p.2)
-    (fails_later (header_grammar kind) (lines_before kind (DueWord outline count [])) (map digits_of ws) c.args.lines.now c.words.lines (left c.args.src.now) (left c.words.src) (left c.take.new.src) fault kept.taken
-    (subst (λ (ls : List (List ℕ)). FailsBehind (header_grammar kind) ls c.words.lines (left c.words.src) (left c.take.new.src) fault) (sym (behind_words kind outline count ws)) fails))
+    (word_turn_fails count ws c.args.lines.now c.words.lines c.take.new.lines (left c.args.src.now) (left c.words.src) (left c.take.new.src) None kept.takes fewer
+    (record { due = tt; reached = tt; stops = c.take.ensures.stops }))
 
 pub words-preserved : goal.words-preserved
 words-preserved g c =
     let left = g.S.Source.left in
-    let old = c.words.words.items in
-    let new = c.push.new.self.items in
+    let count = c.args.count in
+    let ws = c.words.words.items in
     let word = c.in_ok-word.word in
     let kept = c.words.invariant in
-    let read = c.in_ok-word.ensures.due in
-    let more = pushed old new word c.push.result c.map_err.result c.in_ok-map_err.field-0 c.push.ensures.items c.map_err.ensures.variant c.in_ok-map_err.was in
+    let fewer : length ws < count = omega (arith, kept.count, c.words-test.true) in
+    let more = pushed ws c.push.new.self.items word c.push.result c.map_err.result c.in_ok-map_err.field-0 c.push.ensures.items c.map_err.ensures.variant c.in_ok-map_err.was in
+    let one = c.in_ok-word.ensures.reads in
+    let takes = word_turn_taken count ws word c.args.lines.now c.words.lines c.take.new.lines (left c.args.src.now) (left c.words.src) (left c.take.new.src) kept.takes fewer one in
     record {
-      taken = lines_more digits_of old new word read.line c.args.lines.now c.words.lines c.take.new.lines (left c.args.src.now) (left c.words.src) (left c.take.new.src) more read.read.0.digits kept.taken read.taken;
-      count = omega (arith, kept.count, length_more old new word more);
-      stable = all_more IsStableWord old new word more kept.stable (record { word = read.read.0.is_word; stable = read.read.1 });
+      takes = subst (λ (l : List (List ℕ)). TakesPart (listed_so_far count) c.args.lines.now c.take.new.lines (left c.args.src.now) (left c.take.new.src) l) (sym more) takes;
+      number = omega (arith, kept.number, one.taken.number, length_more ws c.push.new.self.items word more);
+      count = omega (arith, kept.count, length_more ws c.push.new.self.items word more);
       cause = c.in_ok-word.ensures.cause ∙ kept.cause;
     }

@@ -1,7 +1,7 @@
 use Rattle.std.proofs.Common.{◌≡◌, map, take}
 use Rattle.std.specs.Io.KnownBytes.{Appends}
 use Rattle.covering_file.specs.Header.{corner_line}
-use Rattle.covering_file.specs.Text.{text_of}
+use Rattle.line_grammar.specs.Text.{text_of}
 use Rattle.covering_file.proofs.writing.write_corners.Given as goal
 
 -- the corners so far are written, and room and count stand

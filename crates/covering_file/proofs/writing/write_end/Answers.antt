@@ -1,7 +1,7 @@
 use Rattle.std.proofs.Common.{ℕ, subst, sym}
 use Rattle.mcb_ends.specs.Bytes.{Writes}
 use Rattle.covering_file.specs.Node.{end_line}
-use Rattle.covering_file.specs.Text.{with_newline}
+use Rattle.line_grammar.specs.Text.{with_newline}
 use Rattle.covering_file.proofs.writing.write_end.Goals as goal
 
 pub returns-in-0-clause-text : goal.returns-in-0-clause-text

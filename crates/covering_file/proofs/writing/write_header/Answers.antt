@@ -3,8 +3,9 @@ use Rattle.rational_polygon.specs.Outline.{Outline}
 use Rattle.std.specs.Io.KnownBytes.{Appends}
 use Rattle.mcb_ends.specs.Bytes.{AppendsPrefix, Writes}
 use Rattle.mcb_ends.proofs.Written.{AppendsPrefix-begun, AppendsPrefix-then, Writes-then, Writes-failed}
-use Rattle.covering_file.specs.Header.{first_line, named_line, outline_lines, words_lines, header_text}
-use Rattle.covering_file.specs.Text.{text_of, with_newline}
+use Rattle.line_grammar.specs.Text.{named_line}
+use Rattle.covering_file.specs.Header.{first_line, outline_lines, words_lines, header_text}
+use Rattle.line_grammar.specs.Text.{text_of, with_newline}
 use Rattle.covering_file.proofs.Texts.{header_text-parts}
 use Rattle.covering_file.proofs.writing.write_header.Goals as goal
 

@@ -1,7 +1,7 @@
 use Rattle.std.proofs.Common.{ℕ, List, subst}
 use Rattle.edge_words.specs.Reading.{digits_of}
 use Rattle.mcb_ends.specs.Bytes.{AppendsPrefix}
-use Rattle.covering_file.specs.Text.{with_newline}
+use Rattle.line_grammar.specs.Text.{with_newline}
 use Rattle.covering_file.proofs.Texts.{cut_in_list}
 use Rattle.covering_file.proofs.writing.write_letters.Goals as goal
 

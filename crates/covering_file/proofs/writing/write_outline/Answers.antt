@@ -2,8 +2,9 @@ use Rattle.std.proofs.Common.{ℕ, List, ◌++◌, length, map, codes, subst}
 use Rattle.std.specs.Io.KnownBytes.{Appends}
 use Rattle.mcb_ends.specs.Bytes.{AppendsPrefix, Writes}
 use Rattle.mcb_ends.proofs.Written.{AppendsPrefix-begun, AppendsPrefix-then, Writes-then, Writes-failed}
-use Rattle.covering_file.specs.Header.{named_line, corner_line, outline_lines}
-use Rattle.covering_file.specs.Text.{text_of, with_newline}
+use Rattle.line_grammar.specs.Text.{named_line}
+use Rattle.covering_file.specs.Header.{corner_line, outline_lines}
+use Rattle.line_grammar.specs.Text.{text_of, with_newline}
 use Rattle.covering_file.proofs.writing.write_outline.Goals as goal
 
 pub returns-in_err-write_named-clause-text : goal.returns-in_err-write_named-clause-text

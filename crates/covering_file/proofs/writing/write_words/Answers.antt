@@ -1,8 +1,9 @@
 use Rattle.std.proofs.Common.{length, map, codes}
 use Rattle.edge_words.specs.Reading.{digits_of}
 use Rattle.mcb_ends.proofs.Written.{AppendsPrefix-begun, Writes-then, Writes-failed}
-use Rattle.covering_file.specs.Header.{named_line, words_lines}
-use Rattle.covering_file.specs.Text.{text_of, with_newline}
+use Rattle.line_grammar.specs.Text.{named_line}
+use Rattle.covering_file.specs.Header.{words_lines}
+use Rattle.line_grammar.specs.Text.{text_of, with_newline}
 use Rattle.covering_file.proofs.writing.write_words.Goals as goal
 
 pub returns-in_err-write_named-clause-text : goal.returns-in_err-write_named-clause-text

@@ -1,5 +1,5 @@
 use Rattle.std.proofs.Common.{◌≡◌, true}
-use Rattle.covering_file.proofs.NumberLines.{corner_read, first_not_read, second_not_read}
+use Rattle.covering_file.proofs.CornerForms.{corner_read, first_not_read, second_not_read}
 use Rattle.covering_file.proofs.form.CornerForm.read.Goals as goal
 
 pub returns-in_default-2 : goal.returns-in_default-2

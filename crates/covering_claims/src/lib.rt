@@ -1,0 +1,18 @@
+//! What the nodes of a tree claim of their boxes, judged by tests at a scale.
+//!
+//! The one contract: a node that is passed may stand at its box with the narrower slack of the scale, and one that is refused
+//! may not with the wider one.
+#![tactic(auto)]
+
+mod claims;
+mod shown;
+mod testing;
+
+pub use claims::{may_stand, pass_node, reason_of};
+pub use shown::first_shown;
+pub use testing::prepare;
+
+#[cfg(test)]
+mod box_tests;
+#[cfg(test)]
+mod sine_tests;
