@@ -6,8 +6,9 @@ use Rattle.edge_words.proofs.Digits.{digits_of-injective}
 use Rattle.gradient_bounds.specs.Clear.{IsClearAtPoint}
 use Rattle.gradient_bounds.specs.Slacks.{sure}
 use Rattle.covering_file.specs.CornerForms.{RefusesWord}
+use Rattle.covering_file.specs.Header.{IsStableWord}
+use Rattle.covering_file.proofs.CornerForms.{word_is_form}
 use Rattle.line_grammar.specs.declared.reason.Reason.{Reason}
-use Rattle.line_grammar.specs.declared.reason.Reason.TheVariants.{NotAWord, UnstableWord}
 use Rattle.billiards_cli.specs.Arguments.{Angles}
 use Rattle.billiards_cli.specs.Requests.{command_of}
 use Rattle.billiards_cli.specs.Services.{IsAnswer}
@@ -21,11 +22,10 @@ pub one_spelling : (argument w v : List ℕ) → Spells argument w → Spells ar
 one_spelling argument w v first second = digits_of-injective v w (sym second.digits ∙ first.digits)
 
 -- an argument that spells a stable word is not refused
-pub not_refused : (argument w : List ℕ) (reason : Reason) → Spells argument w → IsStable w → RefusesWord argument reason → ⊥
-not_refused argument w NotAWord spells stable none = none (w, spells)
-not_refused argument w UnstableWord spells stable unstable =
-    unstable.2 (subst (λ (x : List ℕ). IsStable x) (one_spelling argument unstable.0 w unstable.1 spells) stable)
-not_refused argument w reason spells stable none = none
+pub not_refused : (argument w : List ℕ) (reason : Reason) → Spells argument w → IsStable w → ¬ (RefusesWord argument reason)
+not_refused argument w reason spells stable refused =
+    let says : IsStableWord w = record { word = spells.is_word; stable = stable } in
+    word_is_form.passes w reason says (subst (λ (bytes : List ℕ). RefusesWord bytes reason) spells.digits refused)
 
 at_answer_is_due : (argument : List ℕ) (triangle : Angles) (status : Status) (text : List ℕ)
     → IsAtAnswer argument triangle status text → IsAtDue argument triangle status

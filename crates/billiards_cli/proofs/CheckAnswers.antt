@@ -13,7 +13,7 @@ use Rattle.billiards_cli.specs.Command.{By}
 use Rattle.billiards_cli.specs.Commands.Check.{ends_check, IsCheckAnswer, IsCheckDue, refusal_status}
 use Rattle.billiards_cli.specs.Refusals.{refused_text}
 use Rattle.billiards_cli.specs.Requests.{command_of}
-use Rattle.billiards_cli.specs.Services.{IsAnswer, ReadsFor, StopsAtLine}
+use Rattle.billiards_cli.specs.Services.{IsAnswer, ReadsFor, StopsAtNamed}
 use Rattle.billiards_cli.specs.declared.request.Request.TheVariants as request
 use Rattle.billiards_cli.specs.declared.status.Status.{Status}
 use Rattle.billiards_cli.specs.declared.status.Status.TheVariants as status
@@ -41,12 +41,12 @@ check_answer left left' input ending text may_be right read =
     record { input = input; may_be = may_be; right = right; due = check_answer_is_due input ending text right; read = read }
 
 -- a refusal stops reading at its line, and goes with its status
-pub refusal_reads : (line : ℕ) (why : Reason) (left left' : Option (List ℕ)) → StopsAtLine checked line left left'
+pub refusal_reads : (line : ℕ) (why : Reason) (left left' : Option (List ℕ)) → StopsAtNamed checked (refused_text line why) left left'
     → ReadsFor (By checked) (ends_check (refusal_status why)) (refused_text line why) left left'
-refusal_reads line NotApart left left' stops = (line, inr (NotApart, refl), stops)
-refusal_reads line NotShown left left' stops = (line, inr (NotShown, refl), stops)
-refusal_reads line Uncovered left left' stops = (line, inr (Uncovered, refl), stops)
-refusal_reads line why left left' stops = (line, inr (why, refl), stops)
+refusal_reads line NotApart left left' stops = stops
+refusal_reads line NotShown left left' stops = stops
+refusal_reads line Uncovered left left' stops = stops
+refusal_reads line why left left' stops = stops
 
 pub refusal_answer : (input : List ℕ) (line : ℕ) (why : Reason) → IsRefused MAX_NODES line why input
     → IsCheckAnswer input (refusal_status why) (refused_text line why)

@@ -3,10 +3,8 @@ use Rattle.std.proofs.Common.{◌≡◌, inl, inr, ℕ, List, [], ◌++◌, refl
 use Rattle.gradient_bounds.specs.Clear.{IsClearAtPoint}
 use Rattle.gradient_bounds.specs.Slacks.{sure}
 use Rattle.unfolding.proofs.Shifts.{same_shift}
-use Rattle.line_grammar.specs.declared.reason.Reason.{Reason}
-use Rattle.line_grammar.specs.declared.reason.Reason.TheVariants.{NotAWord, UnstableWord}
 use Rattle.line_grammar.proofs.Laws.{line_is_one}
-use Rattle.covering_file.specs.CornerForms.{RefusesWord}
+use Rattle.covering_file.proofs.CornerForms.{word_is_form}
 use Rattle.billiards_cli.specs.Arguments.{any_word}
 use Rattle.billiards_cli.specs.Commands.At.{AtTriangle}
 use Rattle.billiards_cli.specs.Commands.Word.{IsWordLine, IsWordText, shift_text}
@@ -50,20 +48,11 @@ word_answer_is_one input text text' status status' first second some more = absu
 
 -- ---- the command `at`
 
-one_refusal : (argument : List ℕ) (r s : Reason) → RefusesWord argument r → RefusesWord argument s → r ≡ s
-one_refusal argument NotAWord NotAWord first second = refl
-one_refusal argument UnstableWord UnstableWord first second = refl
-one_refusal argument NotAWord UnstableWord first second = absurd (first (second.0, second.1))
-one_refusal argument UnstableWord NotAWord first second = absurd (second (first.0, first.1))
-one_refusal argument NotAWord s first second = absurd second
-one_refusal argument UnstableWord s first second = absurd second
-one_refusal argument r s first second = absurd first
-
 pub at_answers_differ_between : AtAnswersDifferBetween
 at_answers_differ_between argument text text' triangle Done Done first second some more = inl (refl, first.text_is ∙ sym second.text_is)
 at_answers_differ_between argument text text' triangle NotShown NotShown first second some more = inl (refl, first.text_is ∙ sym second.text_is)
 at_answers_differ_between argument text text' triangle Malformed Malformed first second some more =
-    inl (refl, first.named ∙ ap argument_text (one_refusal argument first.reason second.reason first.refused second.refused) ∙ sym second.named)
+    inl (refl, first.named ∙ ap argument_text (word_is_form.one_reason argument first.reason second.reason first.refused second.refused) ∙ sym second.named)
 at_answers_differ_between argument text text' triangle Done NotShown first second some more =
     let not_clear = subst (λ (w : List ℕ). ¬ (AtTriangle triangle (λ x y. IsClearAtPoint w x y sure.gradient)))
           (one_spelling argument first.word second.word first.spells second.spells) second.not_clear in

@@ -8,7 +8,7 @@ use Rattle.line_grammar.specs.Offence.{number_of}
 use Rattle.line_grammar.specs.declared.reason.Reason.{Reason}
 use Rattle.line_grammar.specs.declared.reason.Reason.TheVariants.{NotAWord}
 use Rattle.covering_file.specs.CornerForms.{RefusesWord}
-use Rattle.covering_file.proofs.Lines.{digits_of-short}
+use Rattle.covering_file.proofs.HeadLines.{digits_of-short}
 use Rattle.billiards_cli.specs.Arguments.{RefusesAnyWord, any_word}
 
 -- what is no word is no stable one

@@ -18,24 +18,27 @@ use Rattle.billiards_cli.specs.declared.status.Status.TheVariants.{Done, NotShow
 
 -- ---- how much was read
 
--- Reading stopped at a due line that is reached, which has this number: at most one buffer of 4,096 bytes after the lines before it was read.
-abbrev pub StopsAtLine : Grammar → ℕ → Option (List ℕ) → Option (List ℕ) → Type 0
-StopsAtLine g line left left' = (due : g.Due) × (line ≡ length (g.lines_before due) + 1) × EndsAt g due left left'
-
 -- the line that a refusal names; a text that is empty names none
 abbrev pub MayName : List ℕ → ℕ → Type 0
 MayName text line = (text ≡ []) ⊎ ((reason : Reason) × (text ≡ refused_text line reason))
+
+-- Reading stopped at a due line that is reached, which the text may name: at most one buffer of 4,096 bytes after the lines before it was
+-- read.
+pub record StopsAtNamed (g : Grammar) (text : List ℕ) (left left' : Option (List ℕ)) : Type 0 where
+  pub due : g.Due
+  pub named : MayName text (length (g.lines_before due) + 1)
+  pub ends : EndsAt g due left left'
 
 -- an answer was read for: to the end of the input, or as far as the line that it names
 abbrev pub ReadsFor : Reading → Bool → List ℕ → Option (List ℕ) → Option (List ℕ) → Type 0
 ReadsFor Nothing ends text left left' = ⊤
 ReadsFor (By g) true text left left' = IsAtEnd left'
-ReadsFor (By g) false text left left' = (line : ℕ) × MayName text line × StopsAtLine g line left left'
+ReadsFor (By g) false text left left' = StopsAtNamed g text left left'
 
 -- a read failed: at some due line
 abbrev pub FailsIn : Reading → Option (List ℕ) → Option (List ℕ) → Type 0
 FailsIn Nothing left left' = ⊥
-FailsIn (By g) left left' = (line : ℕ) × StopsAtLine g line left left'
+FailsIn (By g) left left' = (due : g.Due) × EndsAt g due left left'
 
 -- ---- what was written
 
