@@ -9,14 +9,16 @@ use Rattle.rational_polygon.specs.Square.{Square}
 use Rattle.gradient_bounds.specs.Clear.{IsClear}
 use Rattle.covering_file.specs.Faults.{word_at, IsListed}
 
-pub listed_test : (tests words : List (List ℕ)) (i : ℕ) (test : List ℕ) → tests ≡ words → IsListed words i → test ≡ slice_index_or tests (i - 1) test → test ≡ word_at words i
+pub listed_test : (tests words : List (List ℕ)) (i : ℕ) (test : List ℕ) → tests ≡ words → IsListed words i → test ≡ slice_index_or tests (i - 1) test
+    → test ≡ word_at words i
 listed_test tests words i test same listed is =
     let within : i - 1 < length words = omega (arith, listed.0, listed.1) in
     subst (λ (ws : List (List ℕ)). test ≡ slice_index_or ws (i - 1) test) same is ∙ get_or_default words (i - 1) test _ within
 
 -- ---- the tests of the words so far
 
-pub one_more : (words old new : List (List ℕ)) (k : ℕ) (word test : List ℕ) → word ≡ slice_index_or words k word → old ≡ take k words → new ≡ old ++ test ∷ [] → test ≡ word → k < length words → new ≡ take (k + 1) words
+pub one_more : (words old new : List (List ℕ)) (k : ℕ) (word test : List ℕ) → word ≡ slice_index_or words k word → old ≡ take k words
+    → new ≡ old ++ test ∷ [] → test ≡ word → k < length words → new ≡ take (k + 1) words
 one_more words old new k word test is so_far more same within =
     let next : take (suc k) words ≡ take k words ++ slice_index_or words k word ∷ [] = take-suc words k word within in
     let here : test ≡ slice_index_or words k word = same ∙ is in

@@ -1,10 +1,10 @@
 -- The forms of corners and of words read each line in one way.
-use Rattle.std.proofs.Common.{◌≡◌, ◌↔◌, ℕ, ◌+◌, ◌≤◌, ◌<◌, List, [], ◌∷◌, ◌++◌, length, Option, Some, None, decimal, refl, sym, ap, ◌∙◌, subst, arith}
+use Rattle.std.proofs.Common.{◌≡◌, ◌↔◌, ℕ, ◌≤◌, ◌<◌, List, Option, Some, None, decimal, refl, sym, ap, ◌∙◌, subst, arith}
 use Rattle.edge_words.specs.Reading.{Spells, digits_of}
 use Rattle.edge_words.specs.Stable.{IsStable}
 use Rattle.edge_words.proofs.Digits.{digits_of-injective}
 use Rattle.rational_polygon.specs.declared.TheConstants.{MAX_GRID}
-use Rattle.rational_polygon.specs.Outline.{IsInside, IsStrictlyConvex}
+use Rattle.rational_polygon.specs.Outline.{IsInside}
 use Rattle.line_grammar.specs.declared.reason.Reason.{Reason}
 use Rattle.line_grammar.specs.declared.reason.Reason.TheVariants.{OtherLine, Number, CornerOutside, NotConvex, NotAWord, UnstableWord}
 use Rattle.line_grammar.specs.Form.{IsForm}
@@ -14,7 +14,7 @@ use Rattle.line_grammar.proofs.Lines.{decimal-no_space}
 use Rattle.line_grammar.proofs.TwoFields.{fields_are_one}
 use Rattle.covering_file.specs.Header.{IsStableWord, corner_line}
 use Rattle.covering_file.specs.CornerForms.{IsCornerLine, RefusesCorner, corner_form, CompletesNone, RefusesNextCorner, next_corner_form}
-use Rattle.covering_file.specs.CornerForms.{SpellsWord, RefusesWord, word_form}
+use Rattle.covering_file.specs.CornerForms.{RefusesWord, word_form}
 use Rattle.covering_file.proofs.HeadLines.{corner_line-short, one_corner, digits_of-short}
 
 -- ---- the two numbers of a corner
@@ -95,7 +95,8 @@ corner_is_form grid = record {
 -- ---- the next corner of a polygon
 
 -- what refuses a corner refuses the next one
-pub refuses_next : (grid count : ℕ) (corners : List (ℕ × ℕ)) (line : List ℕ) (r : Reason) → RefusesCorner grid line r → RefusesNextCorner grid count corners line r
+pub refuses_next : (grid count : ℕ) (corners : List (ℕ × ℕ)) (line : List ℕ) (r : Reason) → RefusesCorner grid line r
+    → RefusesNextCorner grid count corners line r
 refuses_next grid count corners line NotConvex p = absurd p
 refuses_next grid count corners line r p = p
 

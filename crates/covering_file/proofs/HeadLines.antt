@@ -1,5 +1,5 @@
 -- The lines of a header by name: they are short and tell what they were made of.
-use Rattle.std.proofs.Common.{◌≡◌, ℕ, ◌+◌, ◌≤◌, ◌<◌, ◌^◌, List, [], ◌∷◌, ◌++◌, length, map, decimal, codes, All}
+use Rattle.std.proofs.Common.{◌≡◌, ℕ, ◌+◌, ◌≤◌, ◌<◌, ◌^◌, List, length, decimal, codes}
 use Rattle.std.proofs.Common.{refl, ap, ◌∙◌, arith}
 use Rattle.std.proofs.lemmas.List.{length-map}
 use Rattle.std.proofs.lemmas.List.Elements.{All-map}
@@ -8,7 +8,7 @@ use Rattle.edge_words.specs.Word.{IsWord}
 use Rattle.mcb_ends.specs.Lines.{newline, IsShortLine}
 use Rattle.rational_polygon.specs.declared.TheConstants.{MAX_GRID}
 use Rattle.line_grammar.specs.declared.reason.Reason.TheVariants.{OtherLine, EndLine}
-use Rattle.line_grammar.specs.Form.{IsForm, IsName, whole_line, numbered_line}
+use Rattle.line_grammar.specs.Form.{IsForm, whole_line, numbered_line}
 use Rattle.line_grammar.specs.Text.{space}
 use Rattle.line_grammar.proofs.Forms.{whole_is_form, numbered_is_form}
 use Rattle.line_grammar.proofs.Lines.{parted, lacks_byte, decimal-no_space, two_fields-short}

@@ -13,11 +13,13 @@ stable_words words all i listed = (all (i - 1) [] (omega (arith, listed.0, liste
 
 -- ---- the words before the first that is not stable
 
-pub word_behind : (words : List (List ℕ)) (k : ℕ) (word : List ℕ) → k < length words → word ≡ get_or words k word → ((j : ℕ) (d : List ℕ) → j < k → IsStableWord (get_or words j d)) → IsStableWord word → (j : ℕ) (d : List ℕ) → j < k + 1 → IsStableWord (get_or words j d)
+pub word_behind : (words : List (List ℕ)) (k : ℕ) (word : List ℕ) → k < length words → word ≡ get_or words k word
+    → ((j : ℕ) (d : List ℕ) → j < k → IsStableWord (get_or words j d)) → IsStableWord word → (j : ℕ) (d : List ℕ) → j < k + 1 → IsStableWord (get_or words j d)
 word_behind words k word within is before here j d less =
     below_more (λ i. IsStableWord (get_or words i d)) k (λ i lt. before i d lt) (subst IsStableWord (is ∙ get_or_default words k word d within) here) j less
 
-pub first_unstable_at : (words : List (List ℕ)) (k : ℕ) (word : List ℕ) → k < length words → word ≡ get_or words k word → ((j : ℕ) (d : List ℕ) → j < k → IsStableWord (get_or words j d)) → ¬ IsStable word → IsFirstUnstable words (k + 1)
+pub first_unstable_at : (words : List (List ℕ)) (k : ℕ) (word : List ℕ) → k < length words → word ≡ get_or words k word
+    → ((j : ℕ) (d : List ℕ) → j < k → IsStableWord (get_or words j d)) → ¬ IsStable word → IsFirstUnstable words (k + 1)
 first_unstable_at words k word within is before other =
     let place : k ≡ k + 1 - 1 = omega arith in
     let here : word ≡ word_at words (k + 1) = is ∙ get_or_default words k word [] within ∙ ap (λ i. get_or words i []) place in
@@ -46,7 +48,8 @@ fault_is_one words depth Depth (Unstable j) p q = absurd (q.1.unstable (p.1 j q.
 fault_is_one words depth Depth Depth p q = refl
 
 -- where there is no fault, none is right
-pub no_fault : (words : List (List ℕ)) (depth : ℕ) (fault : HeaderFault) → IsWordCount (length words) → All IsStableWord words → IsDepth depth → ¬ IsFaultOf words depth fault
+pub no_fault : (words : List (List ℕ)) (depth : ℕ) (fault : HeaderFault) → IsWordCount (length words) → All IsStableWord words → IsDepth depth
+    → ¬ IsFaultOf words depth fault
 no_fault words depth Words count stable deep is = is count
 no_fault words depth (Unstable i) count stable deep is = is.1.unstable (stable_words words stable i is.1.listed)
 no_fault words depth Depth count stable deep is = is.2 deep

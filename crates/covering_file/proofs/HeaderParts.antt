@@ -1,5 +1,5 @@
 -- The parts of a header, one after another.
-use Rattle.std.proofs.Common.{◌≡◌, ℕ, ◌+◌, ◌≤◌, ◌<◌, Bool, true, false, nat_lt, List, [], ◌∷◌, ◌++◌, length, map, codes, All, Option, IfOk, IfErr, Result, Ok, Err}
+use Rattle.std.proofs.Common.{◌≡◌, ℕ, ◌+◌, ◌≤◌, ◌<◌, Bool, false, nat_lt, List, [], ◌∷◌, ◌++◌, length, map, codes, All, Option, IfOk, IfErr, Result, Ok, Err}
 use Rattle.std.proofs.Common.{refl, sym, ap, ◌∙◌, subst, arith, length-append, append_assoc}
 use Rattle.std.proofs.lemmas.Bool.{lt-ltb, le-ltb}
 use Rattle.std.proofs.lemmas.List.{length-map}
@@ -10,16 +10,16 @@ use Rattle.rational_polygon.specs.Outline.{Outline, IsInside, IsPolygon}
 use Rattle.line_grammar.specs.declared.reason.Reason.TheVariants.{OtherLine}
 use Rattle.line_grammar.specs.Faults.{Refusal}
 use Rattle.line_grammar.specs.Form.{whole_line}
-use Rattle.line_grammar.specs.Part.{Part, AreSaid, line_part, lines_in_turn, followed_by, so_far, in_turn, repeated}
+use Rattle.line_grammar.specs.Part.{Part, AreSaid, line_part, lines_in_turn, followed_by, so_far}
 use Rattle.line_grammar.specs.Reading.{FailsPart, TakesPart, ReadsPart}
-use Rattle.line_grammar.proofs.Counted.{lines_of_each, said_each, said_repeated, exact_count}
+use Rattle.line_grammar.proofs.Counted.{lines_of_each, said_each, said_repeated}
 use Rattle.line_grammar.proofs.Parts.{fails_first, fails_second, takes_both, takes_turn, takes_all_turns, fails_turn, takes_seen}
 use Rattle.covering_file.specs.declared.fault.HeadFault.{HeadFault}
 use Rattle.covering_file.specs.Faults.{head_refusal}
 use Rattle.covering_file.specs.declared.TheConstants.{MAX_WORDS}
 use Rattle.covering_file.specs.declared.file_kind.FileKind.{FileKind}
-use Rattle.covering_file.specs.CornerForms.{CompletesNone, next_corner_form, word_form}
-use Rattle.covering_file.specs.Header.{Heading, IsHeading, IsStableWord, first_line, corner_line, outline_lines, words_lines, header_lines}
+use Rattle.covering_file.specs.CornerForms.{next_corner_form, word_form}
+use Rattle.covering_file.specs.Header.{IsHeading, first_line, corner_line, outline_lines, words_lines, header_lines}
 use Rattle.covering_file.specs.HeaderPart.{named_part, corners_part, corners_so_far, counted_corners, polygon_part}
 use Rattle.covering_file.specs.HeaderPart.{listed_part, words_part, depth_part, after_polygon, after_first_line, header_part}
 
@@ -32,7 +32,8 @@ abbrev pub corner_after : ℕ → ℕ → List (ℕ × ℕ) → Part (ℕ × ℕ
 corner_after grid count corners = line_part (next_corner_form grid count corners)
 
 pub corner_turn_fails : (grid count : ℕ) (cs : List (ℕ × ℕ)) (old mid new : Reader) (a b c : Option (List ℕ)) (refusal : Option Refusal)
-    → TakesPart (corners_so_far grid count) old mid a b cs → length cs < count → FailsPart (line_part (next_corner_form grid count cs)).grammar mid new b c refusal
+    → TakesPart (corners_so_far grid count) old mid a b cs → length cs < count
+    → FailsPart (line_part (next_corner_form grid count cs)).grammar mid new b c refusal
     → FailsPart (corners_part grid count).grammar old new a c refusal
 corner_turn_fails grid count cs old mid new a b c refusal takes less fails =
     fails_turn (corner_due count) (corner_after grid count) cs old mid new a b c refusal takes (lt-ltb (length cs) count less) fails
@@ -77,14 +78,18 @@ outline_taken grid count cs old mid at new a b c d taken taken' corners counted 
     let all = takes_all_turns (corner_due count) (corner_after grid count) cs at new c d corners (le-ltb (length cs) count (omega (arith, counted))) in
     let two = takes_both (named_part (codes "polygon") MIN_CORNERS MAX_CORNERS) (corners_part grid) count cs mid at new b c d taken' all in
     let three = takes_both (named_part (codes "grid") 1 MAX_GRID) counted_corners grid (count, cs) old mid new a b d taken two in
-    takes_seen (followed_by (named_part (codes "grid") 1 MAX_GRID) counted_corners) IsPolygon outline_lines (grid, (count, cs)) (record { grid = grid; corners = cs })
+    takes_seen (followed_by (named_part (codes "grid") 1 MAX_GRID) counted_corners) IsPolygon outline_lines (grid, (count, cs))
+    (record { grid = grid; corners = cs })
     old new a d three polygon (same_lines grid count cs counted)
   where
     same_lines : (grid count : ℕ) (cs : List (ℕ × ℕ)) → length cs ≡ count
-        → (followed_by (named_part (codes "grid") 1 MAX_GRID) counted_corners).lines_of (grid, (count, cs)) ≡ outline_lines (record { grid = grid; corners = cs })
+        → (followed_by (named_part (codes "grid") 1 MAX_GRID) counted_corners).lines_of (grid, (count, cs))
+        ≡ outline_lines (record { grid = grid; corners = cs })
     same_lines grid count cs counted =
-        ap (λ (ls : List (List ℕ)). (named_part (codes "grid") 1 MAX_GRID).lines_of grid ++ ((named_part (codes "polygon") MIN_CORNERS MAX_CORNERS).lines_of count ++ ls)) (corner_lines grid count cs)
-        ∙ ap (λ n. (named_part (codes "grid") 1 MAX_GRID).lines_of grid ++ ((named_part (codes "polygon") MIN_CORNERS MAX_CORNERS).lines_of n ++ map corner_line cs)) (sym counted)
+        ap (λ (ls : List (List ℕ)). (named_part (codes "grid") 1 MAX_GRID).lines_of grid
+        ++ ((named_part (codes "polygon") MIN_CORNERS MAX_CORNERS).lines_of count ++ ls)) (corner_lines grid count cs)
+        ∙ ap (λ n. (named_part (codes "grid") 1 MAX_GRID).lines_of grid
+        ++ ((named_part (codes "polygon") MIN_CORNERS MAX_CORNERS).lines_of n ++ map corner_line cs)) (sym counted)
 
 -- the last corner, after the others
 pub last_taken : (grid count : ℕ) (cs : List (ℕ × ℕ)) (o : Outline) (old mid at mid' new : Reader) (a b c d e : Option (List ℕ))
@@ -132,7 +137,8 @@ pub listed_number : (count : ℕ) (ws : List (List ℕ)) (old new : Reader) (a b
 listed_number count ws old new a b takes =
     omega (arith, takes.taken.number, ap length (lines_of_each word_after digits_of (λ l w. refl) [] ws), length-map ws digits_of)
 
-pub words_taken : (count : ℕ) (ws : List (List ℕ)) (old mid new : Reader) (a b c : Option (List ℕ)) → TakesPart (named_part (codes "words") 1 MAX_WORDS) old mid a b count
+pub words_taken : (count : ℕ) (ws : List (List ℕ)) (old mid new : Reader) (a b c : Option (List ℕ))
+    → TakesPart (named_part (codes "words") 1 MAX_WORDS) old mid a b count
     → TakesPart (listed_part count) mid new b c ws → TakesPart words_part old new a c ws
 words_taken count ws old mid new a b c taken listed =
     let both = said_repeated count (line_part word_form) ws listed.says in
@@ -142,7 +148,8 @@ words_taken count ws old mid new a b c taken listed =
     (ap (λ (ls : List (List ℕ)). (named_part (codes "words") 1 MAX_WORDS).lines_of count ++ ls) (lines_of_each word_after digits_of (λ l w. refl) [] ws)
     ∙ ap (λ n. (named_part (codes "words") 1 MAX_WORDS).lines_of n ++ map digits_of ws) (sym both.1))
 
-pub words_fail : (count : ℕ) (old mid new : Reader) (a b c : Option (List ℕ)) (refusal : Option Refusal) → TakesPart (named_part (codes "words") 1 MAX_WORDS) old mid a b count
+pub words_fail : (count : ℕ) (old mid new : Reader) (a b c : Option (List ℕ)) (refusal : Option Refusal)
+    → TakesPart (named_part (codes "words") 1 MAX_WORDS) old mid a b count
     → FailsPart (listed_part count).grammar mid new b c refusal → FailsPart words_part.grammar old new a c refusal
 words_fail count old mid new a b c refusal taken fails =
     fails_second (named_part (codes "words") 1 MAX_WORDS) listed_part count old mid new a b c refusal taken fails
@@ -171,7 +178,7 @@ pub depth_fails : (kind : FileKind) (o : Outline) (ws : List (List ℕ)) (old mi
 depth_fails kind o ws old mid at last new a b c d e refusal first outline words fails =
     fails_second (first_part kind) after_first_line tt old mid new a b e refusal first
     (fails_second polygon_part after_polygon o mid at new b c e refusal outline
-      (fails_second words_part (λ _. depth_part) ws at last new c d e refusal words fails))
+    (fails_second words_part (λ _. depth_part) ws at last new c d e refusal words fails))
 
 pub header_taken : (kind : FileKind) (o : Outline) (ws : List (List ℕ)) (depth : ℕ) (old mid at last new : Reader) (a b c d e : Option (List ℕ))
     → TakesPart (first_part kind) old mid a b tt → TakesPart polygon_part mid at b c o → TakesPart words_part at last c d ws
@@ -180,7 +187,8 @@ header_taken kind o ws depth old mid at last new a b c d e first outline words d
     let two = takes_both words_part (λ _. depth_part) ws depth at last new c d e words deep in
     let three = takes_both polygon_part after_polygon o (ws, depth) mid at new b c e outline two in
     let four = takes_both (first_part kind) after_first_line tt (o, (ws, depth)) old mid new a b e first three in
-    takes_seen (followed_by (first_part kind) after_first_line) IsHeading (header_lines kind) (tt, (o, (ws, depth))) (record { outline = o; words = ws; depth = depth })
+    takes_seen (followed_by (first_part kind) after_first_line) IsHeading (header_lines kind) (tt, (o, (ws, depth)))
+    (record { outline = o; words = ws; depth = depth })
     old new a e four (record { polygon = outline.says; word_count = words.says.0; stable = words.says.1; depth = deep.says.1 })
     (ap (λ (ls : List (List ℕ)). first_line kind ∷ ls) (sym (append_assoc (outline_lines o) (words_lines ws) (depth_part.lines_of depth))))
 
@@ -189,7 +197,8 @@ header_taken kind o ws depth old mid at last new a b c d e first outline words d
 pub outline_read : (grid count : ℕ) (cs : List (ℕ × ℕ)) (result : Result Outline HeadFault) (old mid at mid' new : Reader) (a b c d e : Option (List ℕ))
     → TakesPart (named_part (codes "grid") 1 MAX_GRID) old mid a b grid → TakesPart (named_part (codes "polygon") MIN_CORNERS MAX_CORNERS) mid at b c count
     → TakesPart (corners_so_far grid count) at mid' c d cs → length cs + 1 ≡ count → IfOk result IsPolygon
-    → IfOk result (λ o. (x : ℕ × ℕ) × (o ≡ record { grid = grid; corners = cs ++ x ∷ [] }) × TakesPart (line_part (next_corner_form grid (length cs + 1) cs)) mid' new d e x)
+    → IfOk result (λ o. (x : ℕ × ℕ) × (o ≡ record { grid = grid; corners = cs ++ x ∷ [] })
+    × TakesPart (line_part (next_corner_form grid (length cs + 1) cs)) mid' new d e x)
     → IfErr result (λ fault. FailsPart (line_part (next_corner_form grid (length cs + 1) cs)).grammar mid' new d e (head_refusal fault))
     → ReadsPart polygon_part head_refusal old new a e result
 outline_read grid count cs (Ok o) old mid at mid' new a b c d e taken taken' corners counted polygon last fails =
@@ -217,7 +226,8 @@ pub first_takes : (kind : FileKind) (text : List ℕ) (v : Unit {0}) (old new : 
     → TakesPart (line_part (whole_line text OtherLine)) old new a b v → TakesPart (first_part kind) old new a b tt
 first_takes kind text v old new a b is takes = subst (λ (t : List ℕ). TakesPart (line_part (whole_line t OtherLine)) old new a b tt) is takes
 
-pub first_fails : (kind : FileKind) (text : List ℕ) (old new : Reader) (a b : Option (List ℕ)) (refusal : Option Refusal) → text ≡ first_line kind → old.is_done ≡ false
+pub first_fails : (kind : FileKind) (text : List ℕ) (old new : Reader) (a b : Option (List ℕ)) (refusal : Option Refusal) → text ≡ first_line kind
+    → old.is_done ≡ false
     → FailsPart (line_part (whole_line text OtherLine)).grammar old new a b refusal → FailsPart (header_part kind).grammar old new a b refusal
 first_fails kind text old new a b refusal is reading fails =
     fails_first (first_part kind) after_first_line old new a b refusal reading

@@ -1,5 +1,5 @@
 -- The parts of a job: a header, the end line, and nothing after it.
-use Rattle.std.proofs.Common.{◌≡◌, ℕ, false, List, [], ◌∷◌, ◌++◌, codes, Option, Some, None, IfErr, Result, Ok, Err, refl, sym, subst}
+use Rattle.std.proofs.Common.{◌≡◌, ℕ, false, List, ◌++◌, codes, Option, IfErr, Result, refl, sym, subst}
 use Rattle.mcb_ends.specs.Reader.{Reader, bytes_before}
 use Rattle.line_grammar.specs.declared.reason.Reason.TheVariants.{EndLine}
 use Rattle.line_grammar.specs.declared.fault.LineFault.{LineFault}
@@ -57,7 +57,8 @@ pub wants_new : {T : Type 0} (kind : FileKind) (reader : Reader) (left : Option 
     → IfErr result (WantsMemory kind (bytes_before reader left)) → IfErr result (WantsMemory kind left)
 wants_new kind reader left result new wants = subst (λ (input : Option (List ℕ)). IfErr result (WantsMemory kind input)) (new_bytes reader left new) wants
 
-pub begins_new : (kind : FileKind) (h : Heading) (old new : Reader) (a b : Option (List ℕ)) → IsNew old → TakesPart (header_part kind) old new a b h → BeginsHeader kind a
+pub begins_new : (kind : FileKind) (h : Heading) (old new : Reader) (a b : Option (List ℕ)) → IsNew old → TakesPart (header_part kind) old new a b h
+    → BeginsHeader kind a
 begins_new kind h old new a b is header =
     subst (BeginsHeader kind) (new_bytes old a is)
     (begins_header kind (outline_lines h.outline ++ words_lines h.words ++ depth_part.lines_of h.depth) old new a b header.taken)

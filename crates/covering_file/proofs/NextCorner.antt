@@ -1,5 +1,5 @@
 -- The next corner of a polygon, by the form of a corner.
-use Rattle.std.proofs.Common.{◌≡◌, ℕ, ◌+◌, ◌≤◌, ◌<◌, List, [], ◌∷◌, ◌++◌, All, length, Option, arith, sym, subst}
+use Rattle.std.proofs.Common.{◌≡◌, ℕ, ◌+◌, List, [], ◌∷◌, ◌++◌, All, length, Option, sym, subst}
 use Rattle.mcb_ends.specs.Reader.{Reader}
 use Rattle.rational_polygon.specs.Outline.{IsGrid, IsCount, IsInside, IsStrictlyConvex, IsPolygon}
 use Rattle.line_grammar.specs.declared.reason.Reason.{Reason}
@@ -8,7 +8,7 @@ use Rattle.line_grammar.specs.Faults.{Refusal}
 use Rattle.line_grammar.specs.Part.{line_part}
 use Rattle.line_grammar.specs.Reading.{StopsAfter, RefusesFirst, FailsPart, TakesPart}
 use Rattle.line_grammar.proofs.Refused.{HasLeast, form_least, line_fails, taken_refused}
-use Rattle.covering_file.specs.CornerForms.{RefusesCorner, corner_form, CompletesNone, RefusesNextCorner, next_corner_form}
+use Rattle.covering_file.specs.CornerForms.{corner_form, CompletesNone, RefusesNextCorner, next_corner_form}
 use Rattle.covering_file.specs.Header.{corner_line}
 use Rattle.covering_file.proofs.CornerForms.{refuses_next, next_corner_is_form}
 use Rattle.covering_file.proofs.Pushed.{all_more, length_more}
@@ -18,7 +18,8 @@ next_least : (grid count : ℕ) (corners : List (ℕ × ℕ)) (line : List ℕ) 
 next_least grid count corners line r refuses = form_least (next_corner_form grid count corners) line r (next_corner_is_form grid count corners) refuses
 
 pub next_fails : (grid count : ℕ) (corners : List (ℕ × ℕ)) (old new : Reader) (a b : Option (List ℕ)) (refusal : Option Refusal)
-    → FailsPart (line_part (corner_form grid)).grammar old new a b refusal → FailsPart (line_part (next_corner_form grid count corners)).grammar old new a b refusal
+    → FailsPart (line_part (corner_form grid)).grammar old new a b refusal
+    → FailsPart (line_part (next_corner_form grid count corners)).grammar old new a b refusal
 next_fails grid count corners old new a b refusal fails =
     line_fails (corner_form grid) (RefusesNextCorner grid count corners) (λ l s. ¬ (RefusesNextCorner grid count corners l s)) old new a b refusal
     (λ line r refuses. next_least grid count corners line r (refuses_next grid count corners line r refuses)) fails

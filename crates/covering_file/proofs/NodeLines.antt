@@ -1,5 +1,5 @@
 -- The lines of nodes: they are short and tell the node.
-use Rattle.std.proofs.Common.{◌≡◌, inl, inr, ℕ, ◌<◌, ◌≤◌, List, length, get_or, decimal, codes, false, refl, ap, subst, arith}
+use Rattle.std.proofs.Common.{◌≡◌, inl, inr, ℕ, ◌≤◌, List, length, get_or, decimal, codes, false, refl, ap, arith}
 use Rattle.rational_polygon.specs.Square.{Square}
 use Rattle.gradient_bounds.specs.Slacks.{Slacks}
 use Rattle.mcb_ends.specs.Lines.{newline, HasNoNewline, IsShortLine}

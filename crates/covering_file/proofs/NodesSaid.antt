@@ -1,5 +1,5 @@
 -- Nodes that are said one after another are those that stand at due boxes.
-use Rattle.std.proofs.Common.{◌≡◌, ◌≢◌, inl, inr, ℕ, zero, suc, ◌+◌, ◌≤◌, ◌<◌, Bool, true, false, List, [], ◌∷◌, ◌++◌, length, fold, take}
+use Rattle.std.proofs.Common.{◌≡◌, inl, inr, ℕ, ◌≤◌, Bool, true, false, List, [], ◌∷◌, ◌++◌, length, fold}
 use Rattle.std.proofs.Common.{refl, sym, ap, ◌∙◌, subst, arith, length-append, append_assoc}
 use Rattle.std.specs.Prelude.{is_some}
 use Rattle.rational_polygon.specs.Square.{Square, unit_square}
@@ -28,7 +28,8 @@ next_boxes before due n is = due_more (unit_square ∷ []) before n ∙ ap (λ (
 
 -- ---- from boxes to nodes
 
-said_from_boxes : (claims : Claims) (limit : ℕ) (h : Heading) (before : List Node) (due : List Square) (nodes : List Node) → due_boxes before ≡ due → AreDueFrom due nodes
+said_from_boxes : (claims : Claims) (limit : ℕ) (h : Heading) (before : List Node) (due : List Square) (nodes : List Node) → due_boxes before ≡ due
+    → AreDueFrom due nodes
     → ((box : Square) (n : Node) → StandsIn due nodes box n → IsNode (length h.words) n × claims.MayStand h box n) → length (before ++ nodes) ≤ limit
     → AreSaid node_due (node_part claims limit h) before nodes
 said_from_boxes claims limit h before due [] is are each within = tt
@@ -42,7 +43,8 @@ said_from_boxes claims limit h before (box ∷ others) (n ∷ nodes) is are each
         stands = subst (λ (boxes : List Square). claims.MayStand h (first_box boxes) n) (sym is) here.1;
       },
       said_from_boxes claims limit h (before ++ n ∷ []) (due_after (box ∷ others) n) nodes (next_boxes before (box ∷ others) n is)
-          (due_behind (box ∷ others) n nodes are) (λ at m stands. each at m (inr stands)) (omega (arith, within, ap length (append_assoc before (n ∷ []) nodes))),
+          (due_behind (box ∷ others) n nodes are) (λ at m stands. each at m (inr stands))
+          (omega (arith, within, ap length (append_assoc before (n ∷ []) nodes))),
     )
 
 none_due : (due : List Square) → due ≡ [] → is_some (first_of due) ≡ false
@@ -50,7 +52,8 @@ none_due due is = ap (λ (boxes : List Square). is_some (first_of boxes)) is
 
 -- the nodes of a whole tree, each of which may stand at its box
 pub all_said : (claims : Claims) (limit : ℕ) (h : Heading) (nodes : List Node) → AreWhole nodes → length nodes ≤ limit
-    → ((box : Square) (n : Node) → StandsIn (unit_square ∷ []) nodes box n → IsNode (length h.words) n × claims.MayStand h box n) → (nodes_part claims limit h).Says nodes
+    → ((box : Square) (n : Node) → StandsIn (unit_square ∷ []) nodes box n → IsNode (length h.words) n × claims.MayStand h box n)
+    → (nodes_part claims limit h).Says nodes
 all_said claims limit h nodes whole within each =
     (said_from_boxes claims limit h [] (unit_square ∷ []) nodes refl whole.due each within, none_due (due_boxes nodes) whole.none_left)
 
@@ -64,7 +67,8 @@ sure_from_boxes h before (box ∷ others) (n ∷ nodes) is are each = (
       (due_behind (box ∷ others) n nodes are) (λ at m stands. each at m (inr stands)),
 )
 
-pub each_sure : (h : Heading) (nodes : List Node) → AreDue nodes → ((box : Square) (n : Node) → StandsIn (unit_square ∷ []) nodes box n → IsSoundNode h slacks.sure box n)
+pub each_sure : (h : Heading) (nodes : List Node) → AreDue nodes
+    → ((box : Square) (n : Node) → StandsIn (unit_square ∷ []) nodes box n → IsSoundNode h slacks.sure box n)
     → AreSure (IsSureAfter h) [] nodes
 each_sure h nodes due each = sure_from_boxes h [] (unit_square ∷ []) nodes refl due each
 

@@ -17,8 +17,8 @@ passed_is_accepted limit h nodes heading says =
     let tree = whole_has_tree nodes (said_are_whole check_claims limit h nodes says) in
     let t = tree.0 in
     let sound : IsSound h t = λ box node stands.
-        said_may_stand check_claims limit h nodes says box node
-        (subst (λ (ns : List Node). StandsIn (unit_square ∷ []) ns box node) tree.1 (tree_to_list t box node stands)) in (
+    said_may_stand check_claims limit h nodes says box node
+    (subst (λ (ns : List Node). StandsIn (unit_square ∷ []) ns box node) tree.1 (tree_to_list t box node stands)) in (
       said_within check_claims limit h nodes says,
       record {
         heading = h;

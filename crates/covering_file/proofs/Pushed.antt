@@ -1,11 +1,11 @@
 -- One more element at the end.
-use Rattle.std.proofs.Common.{◌≡◌, ℕ, ◌+◌, true, List, [], ◌∷◌, ◌++◌, All, map, length, Option, Result, Ok, sym, ap, ◌∙◌, subst, length-append, if◌then◌else◌}
+use Rattle.std.proofs.Common.{◌≡◌, ◌+◌, true, List, [], ◌∷◌, ◌++◌, All, length, Result, Ok, sym, ap, ◌∙◌, subst, length-append, if◌then◌else◌}
 use Rattle.std.specs.Result.{is_ok}
-use Rattle.std.proofs.lemmas.List.{map-append}
 use Rattle.std.proofs.lemmas.List.Elements.{All-append, All-nil, All-cons}
 
 -- a push that succeeded, seen by another result
-pub pushed : {A T U E F : Type 0} (old new : List A) (x : A) (pushing : Result T E) (seen : Result U F) (value : U) → new ≡ (if is_ok pushing then old ++ x ∷ [] else old) → is_ok seen ≡ is_ok pushing → seen ≡ Ok value → new ≡ old ++ x ∷ []
+pub pushed : {A T U E F : Type 0} (old new : List A) (x : A) (pushing : Result T E) (seen : Result U F) (value : U)
+    → new ≡ (if is_ok pushing then old ++ x ∷ [] else old) → is_ok seen ≡ is_ok pushing → seen ≡ Ok value → new ≡ old ++ x ∷ []
 pushed old new x pushing seen value is same succeeded =
     let succeeds : is_ok pushing ≡ true = sym same ∙ ap is_ok succeeded in
     is ∙ ap (λ b. if b then old ++ x ∷ [] else old) succeeds

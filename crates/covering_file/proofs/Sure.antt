@@ -1,6 +1,6 @@
 -- No line of a file with a sure tree is refused.
-use Rattle.std.proofs.Common.{◌≡◌, inl, inr, ℕ, ◌+◌, ◌≤◌, List, [], ◌∷◌, ◌++◌, length, refl, sym, ap, ◌∙◌, subst, arith, append-nil}
-use Rattle.rational_polygon.specs.Square.{Square, unit_square, child}
+use Rattle.std.proofs.Common.{◌≡◌, inl, inr, ℕ, List, refl, sym, ◌∙◌, subst, arith, append-nil}
+use Rattle.rational_polygon.specs.Square.{Square, child}
 use Rattle.gradient_bounds.specs.Slacks.{Slacks}
 use Rattle.gradient_bounds.specs.Slacks as slacks
 use Rattle.line_grammar.specs.Offence.{IsFirstOffence}
@@ -20,7 +20,8 @@ use Rattle.covering_file.proofs.Trees.{tree_is_whole, list_to_tree}
 use Rattle.covering_file.proofs.TreeText.{uncovered_in-split, file_text-lines}
 
 -- a sound tree leaves no box uncovered
-pub all_covered : (e : Slacks) (t : Tree) (h : Heading) (root : Square) → ((box : Square) (n : Node) → StandsAt root t box n → IsSoundNode h e box n) → uncovered_in t ≡ 0
+pub all_covered : (e : Slacks) (t : Tree) (h : Heading) (root : Square) → ((box : Square) (n : Node) → StandsAt root t box n → IsSoundNode h e box n)
+    → uncovered_in t ≡ 0
 all_covered e (leaf n is) h root sound = rw (sound_is_covered h e root n (sound root n (refl, refl))) refl
 all_covered e (split a b c d) h root sound =
     omega (
@@ -41,7 +42,7 @@ sure_is_not_refused limit bytes line r file refused =
     let whole = tree_is_whole t in
     let sound = sure_is_sound h t f.sound in
     let said = all_said check_claims limit h nodes whole (omega (arith, file.2, f.node_count))
-        (λ box n stands. let at = list_to_tree t box n stands in (sound_is_node h slacks.sound box n (sound box n at), sound box n at)) in
+    (λ box n stands. let at = list_to_tree t box n stands in (sound_is_node h slacks.sound box n (sound box n at), sound box n at)) in
     let sure = each_sure h nodes whole.due (λ box n stands. f.sound box n (list_to_tree t box n stands)) in
     let text = f.text ∙ file_text-lines h t ∙ sym (append-nil (text_of (file_lines h nodes))) in
     file_never limit (h, nodes) line r (f.is_heading, said) (tt, sure)

@@ -28,10 +28,12 @@ pub tree_text-lines : (t : Tree) → tree_text t ≡ text_of (map node_line (pre
 tree_text-lines (leaf n is) = sym (append-nil (with_newline (node_line n)))
 tree_text-lines (split a b c d) =
     let parts : ((tree_text a ++ tree_text b) ++ tree_text c) ++ tree_text d ≡ nodes_text (((preorder a ++ preorder b) ++ preorder c) ++ preorder d) =
-    rw (tree_text-lines a, tree_text-lines b, tree_text-lines c, tree_text-lines d) (sym (nodes_text-four (preorder a) (preorder b) (preorder c) (preorder d))) in
+    rw (tree_text-lines a, tree_text-lines b, tree_text-lines c, tree_text-lines d)
+    (sym (nodes_text-four (preorder a) (preorder b) (preorder c) (preorder d))) in
     ap (λ (text : List ℕ). with_newline (node_line Split) ++ text) parts
 
-counted-four : (a b c d : List Node) → count_by is_uncovered (((a ++ b) ++ c) ++ d) ≡ ((count_by is_uncovered a + count_by is_uncovered b) + count_by is_uncovered c) + count_by is_uncovered d
+counted-four : (a b c d : List Node) → count_by is_uncovered (((a ++ b) ++ c)
+    ++ d) ≡ ((count_by is_uncovered a + count_by is_uncovered b) + count_by is_uncovered c) + count_by is_uncovered d
 counted-four a b c d =
     let one = λ (n : Node). cond (is_uncovered n) 1 0 in
     sum_by-append one ((a ++ b) ++ c) d

@@ -46,16 +46,19 @@ AreDueFrom due nodes = (k : ℕ) → k < length nodes → fold due_after due (ta
 pub due_behind : (due : List Square) (n : Node) (nodes : List Node) → AreDueFrom due (n ∷ nodes) → AreDueFrom (due_after due n) nodes
 due_behind due n nodes are k within = are (suc k) (omega arith)
 
-pub due_before : (box : Square) (due : List Square) (n : Node) (nodes : List Node) → AreDueFrom (due_after (box ∷ due) n) nodes → AreDueFrom (box ∷ due) (n ∷ nodes)
+pub due_before : (box : Square) (due : List Square) (n : Node) (nodes : List Node) → AreDueFrom (due_after (box ∷ due) n) nodes
+    → AreDueFrom (box ∷ due) (n ∷ nodes)
 due_before box due n nodes are zero within none = cc
 due_before box due n nodes are (suc k) within none = are k (omega arith) none
 
 -- What holds of each node that stands at some box holds of all. Here `due` are the boxes before the first node.
-pub each_stands : (Q : Node → Type 0) (nodes : List Node) (due : List Square) → AreDueFrom due nodes → ((box : Square) (n : Node) → StandsIn due nodes box n → Q n) → All Q nodes
+pub each_stands : (Q : Node → Type 0) (nodes : List Node) (due : List Square) → AreDueFrom due nodes
+    → ((box : Square) (n : Node) → StandsIn due nodes box n → Q n) → All Q nodes
 each_stands Q [] due are holds = All-nil Q
 each_stands Q (n ∷ nodes) [] are holds = absurd (are 0 (omega arith) refl)
 each_stands Q (n ∷ nodes) (box ∷ due) are holds =
-    All-cons Q n nodes (holds box n (inl (refl, refl))) (each_stands Q nodes (due_after (box ∷ due) n) (due_behind (box ∷ due) n nodes are) (λ at m stands. holds at m (inr stands)))
+    All-cons Q n nodes (holds box n (inl (refl, refl))) (each_stands Q nodes (due_after (box ∷ due) n) (due_behind (box ∷ due) n nodes are)
+    (λ at m stands. holds at m (inr stands)))
 
 -- where no box is due, none is due later
 fold-none : (nodes : List Node) → fold due_after [] nodes ≡ []
@@ -63,7 +66,8 @@ fold-none [] = refl
 fold-none (n ∷ nodes) = fold-none nodes
 
 -- a node behind others stands at the first box that is due after them
-pub stands_next : (nodes : List Node) (due : List Square) (n : Node) (more : List Node) (box : Square) (others : List Square) → fold due_after due nodes ≡ box ∷ others → StandsIn due (nodes ++ n ∷ more) box n
+pub stands_next : (nodes : List Node) (due : List Square) (n : Node) (more : List Node) (box : Square) (others : List Square)
+    → fold due_after due nodes ≡ box ∷ others → StandsIn due (nodes ++ n ∷ more) box n
 stands_next [] due n more box others is = subst (λ (boxes : List Square). StandsIn boxes (n ∷ more) box n) (sym is) (inl (refl, refl))
 stands_next (m ∷ nodes) [] n more box others is = absurd (no_box box others (sym (fold-none nodes) ∙ is))
   where
@@ -80,11 +84,13 @@ due_in_tree (split a b c d) box due nodes are =
     let from_c = due_in_tree c (child box 2) (child box 3 ∷ due) (preorder d ++ nodes) from_d in
     let from_b = due_in_tree b (child box 1) (child box 2 ∷ child box 3 ∷ due) (preorder c ++ (preorder d ++ nodes)) from_c in
     let from_a = due_in_tree a (child box 0) (child box 1 ∷ child box 2 ∷ child box 3 ∷ due) (preorder b ++ (preorder c ++ (preorder d ++ nodes))) from_b in
-    let behind = subst (λ (ns : List Node). AreDueFrom (children box ++ due) ns) (sym (regroup (preorder a) (preorder b) (preorder c) (preorder d) nodes)) from_a in
+    let behind = subst (λ (ns : List Node). AreDueFrom (children box ++ due) ns)
+    (sym (regroup (preorder a) (preorder b) (preorder c) (preorder d) nodes)) from_a in
     due_before box due Split ((((preorder a ++ preorder b) ++ preorder c) ++ preorder d) ++ nodes) behind
 
 -- a tree takes its box away
-pub fold-preorder : (t : Tree) (box : Square) (due : List Square) (nodes : List Node) → fold due_after (box ∷ due) (preorder t ++ nodes) ≡ fold due_after due nodes
+pub fold-preorder : (t : Tree) (box : Square) (due : List Square) (nodes : List Node)
+    → fold due_after (box ∷ due) (preorder t ++ nodes) ≡ fold due_after due nodes
 fold-preorder (leaf n is) box due nodes = ap (λ (boxes : List Square). fold due_after boxes nodes) (due_after-leaf box due n is)
 fold-preorder (split a b c d) box due nodes =
     ap (λ (ns : List Node). fold due_after (children box ++ due) ns) (regroup (preorder a) (preorder b) (preorder c) (preorder d) nodes)
@@ -117,7 +123,8 @@ planted n is count nodes f = record {
   list = ap (λ (ns : List Node). n ∷ ns) f.list;
 }
 
-joined : (ts : List Tree) (count : ℕ) (nodes : List Node) → length ts ≡ suc (suc (suc (suc count))) → flat_map preorder ts ≡ nodes → Forest (suc count) (Split ∷ nodes)
+joined : (ts : List Tree) (count : ℕ) (nodes : List Node) → length ts ≡ suc (suc (suc (suc count))) → flat_map preorder ts ≡ nodes
+    → Forest (suc count) (Split ∷ nodes)
 joined (a ∷ b ∷ c ∷ d ∷ ts) count nodes size list = record {
   trees = split a b c d ∷ ts;
   size = omega (arith, size);
@@ -164,7 +171,8 @@ unique (split a b c d) (leaf n of_n) xs ys is =
     absurd (leaf_is_no_split n of_n head)
 unique (split a b c d) (split a' b' c' d') xs ys is =
     let rest : (((preorder a ++ preorder b) ++ preorder c) ++ preorder d) ++ xs ≡ (((preorder a' ++ preorder b') ++ preorder c') ++ preorder d') ++ ys = cc in
-    let flat = sym (regroup (preorder a) (preorder b) (preorder c) (preorder d) xs) ∙ rest ∙ regroup (preorder a') (preorder b') (preorder c') (preorder d') ys in
+    let flat = sym (regroup (preorder a) (preorder b) (preorder c) (preorder d) xs) ∙ rest
+    ∙ regroup (preorder a') (preorder b') (preorder c') (preorder d') ys in
     let first = unique a a' (preorder b ++ (preorder c ++ (preorder d ++ xs))) (preorder b' ++ (preorder c' ++ (preorder d' ++ ys))) flat in
     let second = unique b b' (preorder c ++ (preorder d ++ xs)) (preorder c' ++ (preorder d' ++ ys)) first.1 in
     let third = unique c c' (preorder d ++ xs) (preorder d' ++ ys) second.1 in
@@ -179,19 +187,26 @@ tree_is_one s t is =
 -- ---- where a node stands
 
 behind_split : (a b c d : Tree) (root : Square) (due : List Square) (nodes : List Node) (box : Square) (node : Node)
-    → StandsIn (children root ++ due) (preorder a ++ (preorder b ++ (preorder c ++ (preorder d ++ nodes)))) box node → StandsIn (root ∷ due) (preorder (split a b c d) ++ nodes) box node
+    → StandsIn (children root ++ due) (preorder a ++ (preorder b ++ (preorder c ++ (preorder d ++ nodes)))) box node
+    → StandsIn (root ∷ due) (preorder (split a b c d) ++ nodes) box node
 behind_split a b c d root due nodes box node stands =
-    inr (subst (λ (ns : List Node). StandsIn (children root ++ due) ns box node) (sym (regroup (preorder a) (preorder b) (preorder c) (preorder d) nodes)) stands)
+    inr (subst (λ (ns : List Node). StandsIn (children root ++ due) ns box node)
+    (sym (regroup (preorder a) (preorder b) (preorder c) (preorder d) nodes)) stands)
 
-in_list : (t : Tree) (root : Square) (due : List Square) (nodes : List Node) (box : Square) (node : Node) → StandsAt root t box node ⊎ StandsIn due nodes box node → StandsIn (root ∷ due) (preorder t ++ nodes) box node
+in_list : (t : Tree) (root : Square) (due : List Square) (nodes : List Node) (box : Square) (node : Node) → StandsAt root t box node
+    ⊎ StandsIn due nodes box node → StandsIn (root ∷ due) (preorder t ++ nodes) box node
 in_list (leaf n is) root due nodes box node stands =
     subst (λ (boxes : List Square). ((box ≡ root) × (node ≡ n)) ⊎ StandsIn boxes nodes box node) (sym (due_after-leaf root due n is)) stands
 in_list (split a b c d) root due nodes box node stands =
     let in_d = λ (s : StandsAt (child root 3) d box node ⊎ StandsIn due nodes box node). in_list d (child root 3) due nodes box node s in
-    let in_c = λ (s : StandsAt (child root 2) c box node ⊎ StandsIn (child root 3 ∷ due) (preorder d ++ nodes) box node). in_list c (child root 2) (child root 3 ∷ due) (preorder d ++ nodes) box node s in
-    let in_b = λ (s : StandsAt (child root 1) b box node ⊎ StandsIn (child root 2 ∷ child root 3 ∷ due) (preorder c ++ (preorder d ++ nodes)) box node). in_list b (child root 1) (child root 2 ∷ child root 3 ∷ due) (preorder c ++ (preorder d ++ nodes)) box node s in
-    let in_a = λ (s : StandsAt (child root 0) a box node ⊎ StandsIn (child root 1 ∷ child root 2 ∷ child root 3 ∷ due) (preorder b ++ (preorder c ++ (preorder d ++ nodes))) box node).
-    behind_split a b c d root due nodes box node (in_list a (child root 0) (child root 1 ∷ child root 2 ∷ child root 3 ∷ due) (preorder b ++ (preorder c ++ (preorder d ++ nodes))) box node s) in
+    let in_c = λ (s : StandsAt (child root 2) c box node ⊎ StandsIn (child root 3 ∷ due) (preorder d ++ nodes) box node). in_list c (child root 2)
+    (child root 3 ∷ due) (preorder d ++ nodes) box node s in
+    let in_b = λ (s : StandsAt (child root 1) b box node ⊎ StandsIn (child root 2 ∷ child root 3 ∷ due) (preorder c
+    ++ (preorder d ++ nodes)) box node). in_list b (child root 1) (child root 2 ∷ child root 3 ∷ due) (preorder c ++ (preorder d ++ nodes)) box node s in
+    let in_a = λ (s : StandsAt (child root 0) a box node ⊎ StandsIn (child root 1 ∷ child root 2 ∷ child root 3 ∷ due) (preorder b
+    ++ (preorder c ++ (preorder d ++ nodes))) box node).
+    behind_split a b c d root due nodes box node (in_list a (child root 0) (child root 1 ∷ child root 2 ∷ child root 3 ∷ due)
+    (preorder b ++ (preorder c ++ (preorder d ++ nodes))) box node s) in
     elim stands [
       | inl at ↦ elim at [
         | inl here ↦ inl here
@@ -206,12 +221,14 @@ in_list (split a b c d) root due nodes box node stands =
       | inr s ↦ in_a (inr (in_b (inr (in_c (inr (in_d (inr s)))))))
     ]
 
-in_tree : (t : Tree) (root : Square) (due : List Square) (nodes : List Node) (box : Square) (node : Node) → StandsIn (root ∷ due) (preorder t ++ nodes) box node → StandsAt root t box node ⊎ StandsIn due nodes box node
+in_tree : (t : Tree) (root : Square) (due : List Square) (nodes : List Node) (box : Square) (node : Node)
+    → StandsIn (root ∷ due) (preorder t ++ nodes) box node → StandsAt root t box node ⊎ StandsIn due nodes box node
 in_tree (leaf n is) root due nodes box node stands =
     subst (λ (boxes : List Square). ((box ≡ root) × (node ≡ n)) ⊎ StandsIn boxes nodes box node) (due_after-leaf root due n is) stands
 in_tree (split a b c d) root due nodes box node (inl here) = inl (inl here)
 in_tree (split a b c d) root due nodes box node (inr stands) =
-    let flat = subst (λ (ns : List Node). StandsIn (children root ++ due) ns box node) (regroup (preorder a) (preorder b) (preorder c) (preorder d) nodes) stands in
+    let flat = subst (λ (ns : List Node). StandsIn (children root ++ due) ns box node)
+    (regroup (preorder a) (preorder b) (preorder c) (preorder d) nodes) stands in
     elim (in_tree a (child root 0) (child root 1 ∷ child root 2 ∷ child root 3 ∷ due) (preorder b ++ (preorder c ++ (preorder d ++ nodes))) box node flat) [
       | inl s ↦ inl (inr (inl s))
       | inr behind_a ↦ elim (in_tree b (child root 1) (child root 2 ∷ child root 3 ∷ due) (preorder c ++ (preorder d ++ nodes)) box node behind_a) [
@@ -229,7 +246,8 @@ tree_to_list t box node stands =
 
 pub list_to_tree : (t : Tree) (box : Square) (node : Node) → StandsIn (unit_square ∷ []) (preorder t) box node → StandsAt unit_square t box node
 list_to_tree t box node stands =
-    let either = in_tree t unit_square [] [] box node (subst (λ (ns : List Node). StandsIn (unit_square ∷ []) ns box node) (sym (append-nil (preorder t))) stands) in
+    let either = in_tree t unit_square [] [] box node (subst (λ (ns : List Node). StandsIn (unit_square ∷ []) ns box node)
+    (sym (append-nil (preorder t))) stands) in
     elim either [ inl s ↦ s | inr s ↦ absurd s ]
 
 pub standing_is_due : StandingIsDue

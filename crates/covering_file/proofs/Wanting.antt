@@ -1,5 +1,5 @@
 -- Memory is wanted only after the first line of a header.
-use Rattle.std.proofs.Common.{List, ℕ, [], ◌∷◌, ◌++◌, Option, Some, None, Result, Ok, Err, IfErr, refl, arith, ◌+◌, length}
+use Rattle.std.proofs.Common.{List, ℕ, [], ◌∷◌, ◌++◌, Option, Some, None, Result, Ok, Err, IfErr, refl, arith}
 use Rattle.mcb_ends.specs.Reader.{Reader, bytes_before}
 use Rattle.line_grammar.specs.declared.fault.LineFault.{LineFault}
 use Rattle.line_grammar.specs.declared.fault.LineFault.TheVariants as line
@@ -24,9 +24,11 @@ pub begins_header : (kind : FileKind) (lines : List (List ℕ)) (old new : Reade
     → BeginsHeader kind (bytes_before old a)
 begins_header kind lines old new a b taken =
     let rest = some_rest (bytes_before new b) in
-    let all = text_of (first_line kind ∷ lines) in
-    (all ++ rest.0, may_be_more (bytes_before old a) (bytes_before new b) all rest.0 taken.bytes rest.1,
-      (text_of lines ++ rest.0, (taken.each 0 [] (omega arith), line-text (first_line kind) (text_of lines) rest.0)))
+    let all = text_of (first_line kind ∷ lines) in (
+      all ++ rest.0,
+      may_be_more (bytes_before old a) (bytes_before new b) all rest.0 taken.bytes rest.1,
+      (text_of lines ++ rest.0, (taken.each 0 [] (omega arith), line-text (first_line kind) (text_of lines) rest.0)),
+    )
 
 -- the fault of a line wants none
 pub wants_none : (kind : FileKind) (input : Option (List ℕ)) (fault : LineFault) → WantsMemory kind input (head_of fault)
@@ -39,6 +41,7 @@ wants_after kind input (Line number reason) begins = tt
 wants_after kind input Read begins = tt
 wants_after kind input Memory begins = begins
 
-pub wants_if_err : {T : Type 0} (kind : FileKind) (input : Option (List ℕ)) (result : Result T HeadFault) → BeginsHeader kind input → IfErr result (WantsMemory kind input)
+pub wants_if_err : {T : Type 0} (kind : FileKind) (input : Option (List ℕ)) (result : Result T HeadFault) → BeginsHeader kind input
+    → IfErr result (WantsMemory kind input)
 wants_if_err kind input (Ok value) begins = tt
 wants_if_err kind input (Err fault) begins = wants_after kind input fault begins

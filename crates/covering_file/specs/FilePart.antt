@@ -88,7 +88,7 @@ file_lines h nodes = header_lines Cover h ++ tree_lines nodes
 abbrev pub tree_part : Claims → ℕ → Heading → Part (List Node)
 tree_part claims limit h =
     seen_as (followed_by (nodes_part claims limit h) (λ nodes. line_part (whole_line (due_end nodes) EndLine)))
-      (nodes_part claims limit h).Says tree_lines
+    (nodes_part claims limit h).Says tree_lines
 
 -- a header and then its tree, whatever follows
 abbrev pub file_part : Claims → ℕ → Part (Heading × List Node)

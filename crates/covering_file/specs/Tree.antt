@@ -1,5 +1,6 @@
 -- The quadtree of a covering file, and the text of the file.
--- Source: Raphael Finkel and Jon Bentley, Quad Trees: A Data Structure for Retrieval on Composite Keys, Acta Informatica 4 (1974). The leaves and the text are this program's own.
+-- Source: Raphael Finkel and Jon Bentley, Quad Trees: A Data Structure for Retrieval on Composite Keys, Acta Informatica 4 (1974). The leaves and the
+-- text are this program's own.
 use Rattle.std.specs.Prelude.{◌≡◌, ℕ, ◌⊎◌, List, [], ◌∷◌, ◌++◌, count_by}
 use Rattle.rational_polygon.specs.Square.{Square, child}
 use Rattle.covering_file.specs.declared.file_kind.FileKind.TheVariants.{Cover}

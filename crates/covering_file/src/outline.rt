@@ -89,7 +89,7 @@ fn last_corner<S: Source>(
     requires reading { lines.old.is_done ≡ false }
     ensures corner { IfOk result (λ outline. (c : ℕ × ℕ) × (outline ≡ record { grid = grid; corners = corners.items ++ c ∷ [] })
         × TakesPart (line_part (next_corner_form grid (length corners.items + 1) corners.items)) lines.old lines.new
-            (S.left src.old) (S.left src.new) c) }
+        (S.left src.old) (S.left src.new) c) }
     ensures is_polygon { IfOk result IsPolygon }
     ensures fails { IfErr result (λ fault. FailsPart
         (line_part (next_corner_form grid (length corners.items + 1) corners.items)).grammar lines.old lines.new

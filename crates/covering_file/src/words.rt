@@ -5,8 +5,8 @@ ghost use Rattle.line_grammar.specs.Reading.{TakesPart, FailsPart};
 ghost use Rattle.covering_file.specs.Faults.{head_refusal, is_head_read};
 ghost use Rattle.covering_file.specs.HeaderPart.{words_part, listed_part};
 
-use crate::{HeadFault, MAX_WORDS};
 use crate::form::StableWord;
+use crate::{HeadFault, MAX_WORDS};
 use edge_words::Word;
 use line_grammar::{Numbered, take};
 use mcb_ends::{LineReader, OutOfMemory, Source};

@@ -1,88 +1,97 @@
 -- What is kept of a word, read.
-use Rattle.std.proofs.Common.{◌≡◌, ℕ, ◌+◌, ◌-◌, ◌≤◌, ◌^◌, List, slice_index_or, ℤ, pos, ◌≤ℤ◌, to_z, of_z, sym, ap, subst, ◌∙◌, arith}
+use Rattle.std.proofs.Common.{◌≡◌, ℕ, ◌+◌, ◌-◌, ◌<◌, ◌≤◌, ◌^◌, List, length, slice_index_or, pos, FitsSigned, to_z, sym, ap, ap₂, subst, ◌∙◌, arith}
 use Rattle.std.specs.Global.{Vec}
 use Rattle.std.specs.Int.{w64}
-use Rattle.std.proofs.lemmas.Int.{ints, to_z-of_z, fits_signed_from_abs}
+use Rattle.std.proofs.lemmas.Int.{ints, to_z_pos, fits_signed_from_abs}
 use Rattle.edge_words.specs.Letters.{IsPlace}
-use Rattle.exp_sums.specs.FormalPoint.{FormalPoint, conj, ◌-ₚ◌, ◌*ₚ◌}
-use Rattle.exp_sums.specs.Limits.{weight}
-use Rattle.exp_sums.specs.Reach.{reach}
+use Rattle.edge_words.specs.Word.{IsWord}
+use Rattle.exp_sums.specs.FormalPoint.{FormalPoint, zero_point, conj, ◌-ₚ◌, ◌*ₚ◌}
 use Rattle.exp_sums.specs.SineForm.{sine_form}
+use Rattle.exp_sums.specs.declared.sizes.Sizes.{Sizes}
 use Rattle.unfolding.specs.Corners.{upper_corner, lower_corner}
-use Rattle.unfolding.specs.Shift.{IsShift}
+use Rattle.unfolding.specs.Shift.{IsShift, HasShift}
 use Rattle.defining_functions.specs.Functions.{defining_function, IsWithinFunctionLimits}
-use Rattle.defining_functions.specs.Kept.{IsSmall, IsRow, IsFunctions, sizes_of}
-use Rattle.defining_functions.specs.declared.sizes.Sizes.{Sizes}
-use Rattle.defining_functions.proofs.Limits.{IsSmall-conj, shift_small, upper_small, lower_small, function_limits}
+use Rattle.defining_functions.specs.Heights.{height, upper_height, lower_height}
+use Rattle.defining_functions.specs.Kept.{StandsAt, IsSide, IsRow, IsUpperHeight, IsLowerHeight, IsFunctions, sizes_of}
+use Rattle.defining_functions.proofs.Limits.{upper_height_limits, lower_height_limits}
+use Rattle.defining_functions.proofs.Differences.{function_difference}
 
--- a function, from what it is made of
-pub function_is : (w : List ℕ) (v t p q : FormalPoint) (k l : ℕ) → t ≡ conj v → p ≡ upper_corner w k → q ≡ lower_corner w l
-    → sine_form (t *ₚ (p -ₚ q)) ≡ defining_function v w k l
-unfolding defining_function
-function_is w v t p q k l is_t is_p is_q = λ i. sine_form (is_t i *ₚ (is_p i -ₚ is_q i))
-
--- a number that fits is read as it was written
-number_is : (z : ℤ) (n : ℕ) → z ≡ pos n → n ≤ 2 ^ 32 → to_z w64 (of_z w64 z) ≡ pos n
-number_is z n is small = ap (λ z. to_z w64 (of_z w64 z)) is ∙ to_z-of_z w64 (pos n) (fits_signed_from_abs w64 (pos n) (omega (arith, ints, small)))
-
--- the sizes of a function, from its weight and its reach
-pub sizes_are : (y z : ℤ) (f g : FormalPoint) → y ≡ pos (weight f) → z ≡ pos (reach f) → f ≡ g → IsWithinFunctionLimits g →
-    ◌≡◌ {A = Sizes} (record { weight = to_z w64 (of_z w64 y); reach = to_z w64 (of_z w64 z) }) (sizes_of g)
-sizes_are y z f g is_weight is_reach same h =
-    let weights = number_is y (weight g) (is_weight ∙ ap (λ p. pos (weight p)) same) (omega (arith, h.light)) in
-    let reaches = number_is z (reach g) (is_reach ∙ ap (λ p. pos (reach p)) same) (omega (arith, h.slow, h.light)) in
-    λ i. record { weight = weights i; reach = reaches i }
+-- a height, from what it is made of
+pub height_is : (w : List ℕ) (v t p q o : FormalPoint) → t ≡ conj v → p ≡ q → o ≡ lower_corner w 1 → sine_form (t *ₚ (p -ₚ o)) ≡ height v w q
+unfolding height
+height_is w v t p q o is_t is_p is_o = λ i. sine_form (is_t i *ₚ (is_p i -ₚ is_o i))
 
 -- the place before k, and one more
 place_of_index : (k : ℕ) → 1 ≤ k → k - 1 + 1 ≡ k
 place_of_index k h = omega (arith, h)
 
-module _ (w : List ℕ) (t : FormalPoint) (us ls : List FormalPoint) (rs : List (Vec Sizes)) (h : IsFunctions w t us ls rs) where
-  pub conjugate_small : IsSmall t
-  conjugate_small =
-      let v = h.shift.0 in
-      subst IsSmall (sym (h.conjugate_shift v h.shift.1)) (IsSmall-conj v (shift_small w v h.word h.shift.1))
+-- ---- what is added to a side
+module _ (w : List ℕ) (i : ℕ) where
+  pub upper_wanted : (t p o f : FormalPoint) → ((v : FormalPoint) → IsShift w v → t ≡ conj v) → p ≡ upper_corner w (i + 1) → o ≡ lower_corner w 1 →
+      f ≡ sine_form (t *ₚ (p -ₚ o)) → IsUpperHeight w i f
+  upper_wanted t p o f is_t is_p is_o is_f v shift = is_f ∙ height_is w v t p (upper_corner w (i + 1)) o (is_t v shift) is_p is_o
 
-  pub upper_is : (k : ℕ) (p : FormalPoint) → IsPlace w k → p ≡ slice_index_or us (k - 1) p → p ≡ upper_corner w k
-  upper_is k p place here = here ∙ h.each_upper.each (k - 1) p (omega (arith, place)) ∙ ap (upper_corner w) (place_of_index k place.0)
+  pub lower_wanted : (t p o f : FormalPoint) → ((v : FormalPoint) → IsShift w v → t ≡ conj v) → p ≡ lower_corner w (i + 1) → o ≡ lower_corner w 1 →
+      f ≡ sine_form (t *ₚ (p -ₚ o)) → IsLowerHeight w i f
+  lower_wanted t p o f is_t is_p is_o is_f v shift = is_f ∙ height_is w v t p (lower_corner w (i + 1)) o (is_t v shift) is_p is_o
 
-  pub lower_is : (l : ℕ) (p : FormalPoint) → IsPlace w l → p ≡ slice_index_or ls (l - 1) p → p ≡ lower_corner w l
-  lower_is l p place here = here ∙ h.each_lower.each (l - 1) p (omega (arith, place)) ∙ ap (lower_corner w) (place_of_index l place.0)
+  pub upper_limits : (f : FormalPoint) → IsWord w → HasShift w → IsPlace w (i + 1) → IsUpperHeight w i f → IsWithinFunctionLimits f
+  upper_limits f word (v, shift) place is = subst IsWithinFunctionLimits (sym (is v shift)) (upper_height_limits w v word shift (i + 1) place)
 
-  pub kept_upper_small : (k : ℕ) (p : FormalPoint) → IsPlace w k → p ≡ slice_index_or us (k - 1) p → IsSmall p
-  kept_upper_small k p place here = subst IsSmall (sym (upper_is k p place here)) (upper_small w k h.word place)
+  pub lower_limits : (f : FormalPoint) → IsWord w → HasShift w → IsPlace w (i + 1) → IsLowerHeight w i f → IsWithinFunctionLimits f
+  lower_limits f word (v, shift) place is = subst IsWithinFunctionLimits (sym (is v shift)) (lower_height_limits w v word shift (i + 1) place)
 
-  pub kept_lower_small : (l : ℕ) (p : FormalPoint) → IsPlace w l → p ≡ slice_index_or ls (l - 1) p → IsSmall p
-  kept_lower_small l p place here = subst IsSmall (sym (lower_is l p place here)) (lower_small w l h.word place)
+  before : 0 < i → i - 1 + 1 ≡ i
+  before some = omega (arith, some)
 
-  -- the function of what is kept
-  pub kept_function : (v p q : FormalPoint) (k l : ℕ) → IsShift w v → IsPlace w k → IsPlace w l → p ≡ slice_index_or us (k - 1) p
-      → q ≡ slice_index_or ls (l - 1) q → sine_form (t *ₚ (p -ₚ q)) ≡ defining_function v w k l
-  kept_function v p q k l shift upper lower here there =
-      function_is w v t p q k l (h.conjugate_shift v shift) (upper_is k p upper here) (lower_is l q lower there)
+  pub upper_again : 0 < i → upper_corner w (i + 1) ≡ upper_corner w i → (p : FormalPoint) → IsUpperHeight w (i - 1) p → IsUpperHeight w i p
+  upper_again some same p is v shift = is v shift ∙ ap (upper_height v w) (before some) ∙ ap (height v w) (sym same)
 
-  pub kept_limits : (p q : FormalPoint) (k l : ℕ) → IsPlace w k → IsPlace w l → p ≡ slice_index_or us (k - 1) p → q ≡ slice_index_or ls (l - 1) q
-      → IsWithinFunctionLimits (sine_form (t *ₚ (p -ₚ q)))
-  kept_limits p q k l upper lower here there =
-      let v = h.shift.0 in
-      subst IsWithinFunctionLimits (sym (kept_function v p q k l h.shift.1 upper lower here there)) (function_limits w v k l h.word h.shift.1 upper lower)
+  pub lower_again : 0 < i → lower_corner w (i + 1) ≡ lower_corner w i → (p : FormalPoint) → IsLowerHeight w (i - 1) p → IsLowerHeight w i p
+  lower_again some same p is v shift = is v shift ∙ ap (lower_height v w) (before some) ∙ ap (height v w) (sym same)
 
-  -- the sizes that are kept
-  pub kept_sizes : (k l : ℕ) (row : Vec Sizes) (s : Sizes) → IsPlace w k → IsPlace w l → row ≡ slice_index_or rs (k - 1) row
-      → s ≡ slice_index_or row.items (l - 1) s → (v : FormalPoint) → IsShift w v → s ≡ sizes_of (defining_function v w k l)
-  kept_sizes k l row s upper lower here there v shift =
-      let row_at : IsRow w (k - 1 + 1) row.items = subst (λ r. IsRow w (k - 1 + 1) r.items) (sym here) (h.each_row.each (k - 1) row (omega (arith, upper))) in
-      let row_is : IsRow w k row.items = subst (λ k. IsRow w k row.items) (place_of_index k upper.0) row_at in
-      there ∙ row_is.each (l - 1) s (omega (arith, lower)) v shift ∙ ap (λ l. sizes_of (defining_function v w k l)) (place_of_index l lower.0)
+-- ---- what is kept
+-- what a side says of the k-th edge
+pub side_at : (IsWanted : ℕ → FormalPoint → Type 0) (n : ℕ) (heights : List FormalPoint) (places : List ℕ) → IsSide IsWanted n heights places →
+    (k z : ℕ) → 1 ≤ k → k ≤ n → StandsAt (IsWanted (k - 1)) heights (slice_index_or places (k - 1) z)
+side_at IsWanted n heights places h k z some below = h.each.each (k - 1) z (omega (arith, some, below))
 
-pub weight_is : (s : Sizes) (f : FormalPoint) → s ≡ sizes_of f → IsWithinFunctionLimits f → to_z w64 (of_z w64 s.weight) ≡ pos (weight f)
-weight_is s f is h = number_is s.weight (weight f) (ap (λ s. s.weight) is) (omega (arith, h.light))
+module _ (w : List ℕ) (us : List FormalPoint) (ups : List ℕ) (ls : List FormalPoint) (lps : List ℕ) (rs : List (Vec Sizes))
+    (h : IsFunctions w us ups ls lps rs) where
+  -- at the place of the k-th edge stands the height of its corner
+  pub upper_stands : (k i : ℕ) → IsPlace w k → i ≡ slice_index_or ups (k - 1) i → StandsAt (IsUpperHeight w (k - 1)) us i
+  upper_stands k i place here =
+      subst (StandsAt (IsUpperHeight w (k - 1)) us) (sym here) (side_at (IsUpperHeight w) (length w) us ups h.each_upper k i place.0 place.1)
 
-pub reach_is : (s : Sizes) (f : FormalPoint) → s ≡ sizes_of f → IsWithinFunctionLimits f → to_z w64 (of_z w64 s.reach) ≡ pos (reach f)
-reach_is s f is h = number_is s.reach (reach f) (ap (λ s. s.reach) is) (omega (arith, h.slow, h.light))
+  pub lower_stands : (l j : ℕ) → IsPlace w l → j ≡ slice_index_or lps (l - 1) j → StandsAt (IsLowerHeight w (l - 1)) ls j
+  lower_stands l j place here =
+      subst (StandsAt (IsLowerHeight w (l - 1)) ls) (sym here) (side_at (IsLowerHeight w) (length w) ls lps h.each_lower l j place.0 place.1)
 
-pub weight_limit : (s : Sizes) (f : FormalPoint) → s ≡ sizes_of f → IsWithinFunctionLimits f → to_z w64 (of_z w64 s.weight) ≤ℤ pos 16384
-weight_limit s f is h = subst (λ z. z ≤ℤ pos 16384) (sym (weight_is s f is h)) (omega (arith, ints, h.light))
+  upper_is : (k i : ℕ) (v : FormalPoint) → IsPlace w k → IsShift w v → i ≡ slice_index_or ups (k - 1) i → slice_index_or us i zero_point ≡ upper_height v w k
+  upper_is k i v place shift here = (upper_stands k i place here).is zero_point v shift ∙ ap (upper_height v w) (place_of_index k place.0)
 
-pub reach_limit : (s : Sizes) (f : FormalPoint) → s ≡ sizes_of f → IsWithinFunctionLimits f → to_z w64 (of_z w64 s.reach) ≤ℤ pos 4259840
-reach_limit s f is h = subst (λ z. z ≤ℤ pos 4259840) (sym (reach_is s f is h)) (omega (arith, ints, h.slow, h.light))
+  lower_is : (l j : ℕ) (v : FormalPoint) → IsPlace w l → IsShift w v → j ≡ slice_index_or lps (l - 1) j → slice_index_or ls j zero_point ≡ lower_height v w l
+  lower_is l j v place shift here = (lower_stands l j place here).is zero_point v shift ∙ ap (lower_height v w) (place_of_index l place.0)
+
+  -- the row of the k-th upper corner, and in it the sizes of the function of the l-th lower one
+  pub kept_row : (k i : ℕ) (row : Vec Sizes) → IsPlace w k → i ≡ slice_index_or ups (k - 1) i → row ≡ slice_index_or rs i row →
+      IsRow (slice_index_or us i zero_point) ls row.items
+  kept_row k i row place here is_row =
+      subst (λ (r : Vec Sizes). IsRow (slice_index_or us i zero_point) ls r.items) (sym is_row)
+      (h.each_row.each i row (upper_stands k i place here).in_range zero_point)
+
+  pub kept_sizes : (k l i j : ℕ) (row : Vec Sizes) (s : Sizes) → IsPlace w k → IsPlace w l → i ≡ slice_index_or ups (k - 1) i
+      → j ≡ slice_index_or lps (l - 1) j →
+      row ≡ slice_index_or rs i row → s ≡ slice_index_or row.items j s → (v : FormalPoint) → IsShift w v → s ≡ sizes_of (defining_function v w k l)
+  kept_sizes k l i j row s upper lower here there is_row is_s v shift =
+      is_s
+      ∙ (kept_row k i row upper here is_row).each j s (lower_stands l j lower there).in_range zero_point
+      ∙ ap₂ (λ p q. sizes_of (p -ₚ q)) (upper_is k i v upper shift here) (lower_is l j v lower shift there)
+      ∙ ap sizes_of (sym (function_difference v w k l))
+
+-- a size that is cast to a signed number
+pub cast_fits : (n m : ℕ) → n ≡ m → m ≤ 2 ^ 32 → FitsSigned w64 (pos n)
+cast_fits n m is small = fits_signed_from_abs w64 (pos n) (omega (arith, ints, is, small))
+
+pub cast_is : (n m : ℕ) → n ≡ m → m ≤ 2 ^ 32 → to_z w64 n ≡ pos m
+cast_is n m is small = to_z_pos w64 n (omega (arith, is, small)) ∙ ap pos is

@@ -1,3 +1,5 @@
 pub mod Tables
 pub mod Limits
+pub mod Differences
+pub mod SideSteps
 pub mod Kept

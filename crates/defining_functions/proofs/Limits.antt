@@ -9,7 +9,9 @@ use Rattle.exp_sums.specs.SineForm.{sine_form}
 use Rattle.exp_sums.specs.Limits.{weight, IsWithin, greatest_weight}
 use Rattle.exp_sums.proofs.Weights.{weight-conj, weight-*ₚ, weight_difference}
 use Rattle.exp_sums.proofs.Within.{IsWithin-conj, IsWithin_difference, IsWithin-*ₚ}
+use Rattle.exp_sums.specs.Bend.{bend}
 use Rattle.exp_sums.proofs.Reach.{reach_le}
+use Rattle.exp_sums.proofs.Bend.{bend_le}
 use Rattle.exp_sums.proofs.SineLimits.{weight-sine_form, IsWithin-sine_form}
 use Rattle.exp_sums.proofs.ProductLimits.{sums_near}
 use Rattle.exp_sums.specs.Products.{SumsAreNear}
@@ -19,6 +21,7 @@ use Rattle.unfolding.specs.Shift.{IsShift}
 use Rattle.unfolding.proofs.Shifts.{same_shift, shift_from_stable, stable_from_shift}
 use Rattle.unfolding.proofs.Bounds.{weight-centre, within-centre, weight-corner, within-corner, ends_apart}
 use Rattle.defining_functions.specs.Functions.{defining_function, IsWithinFunctionLimits}
+use Rattle.defining_functions.specs.Heights.{height, upper_height, lower_height}
 use Rattle.defining_functions.specs.Kept.{IsSmall}
 
 -- the shift is the centre of the last triangle
@@ -54,21 +57,47 @@ lower_small w k word place = corner_small w k _ word place
 pub light_product : (p q : FormalPoint) → weight p ≤ 128 → weight q ≤ 128 → weight p * weight q ≤ 16384
 light_product p q h k = omega (arith, mul-le-mul_left (weight p) k, mul-le-mul_right 128 h)
 
-pub function_limits : (w : List ℕ) (v : FormalPoint) (k l : ℕ) → IsWord w → IsShift w v → IsPlace w k → IsPlace w l
-    → IsWithinFunctionLimits (defining_function v w k l)
-unfolding defining_function
-function_limits w v k l word shift upper lower =
-    let way = upper_corner w k -ₚ lower_corner w l in
-    let conjugate = IsSmall-conj v (shift_small w v word shift) in
-    let apart : weight way ≤ 128 = ends_apart w k l _ _ word upper lower in
-    let way_within : IsWithin 65 way = IsWithin_difference 65 _ _ (upper_small w k word upper).within (lower_small w l word lower).within in
-    let within : IsWithin 130 (sine_form (conj v *ₚ way)) = IsWithin-sine_form 130 (conj v *ₚ way)
-    (IsWithin-*ₚ 65 65 (conj v) way conjugate.within way_within) in
+-- the sine form of a small point times a way between two corners
+form_limits : (t way : FormalPoint) → IsSmall t → weight way ≤ 128 → IsWithin 65 way → IsWithinFunctionLimits (sine_form (t *ₚ way))
+form_limits t way small apart near =
+    let within : IsWithin 130 (sine_form (t *ₚ way)) = IsWithin-sine_form 130 (t *ₚ way) (IsWithin-*ₚ 65 65 t way small.within near) in
     record {
       within = within;
-      light = omega (arith, weight-sine_form (conj v *ₚ way), weight-*ₚ (conj v) way, light_product (conj v) way conjugate.light apart);
-      slow = omega (arith, reach_le 130 (sine_form (conj v *ₚ way)) within);
+      light = omega (arith, weight-sine_form (t *ₚ way), weight-*ₚ t way, light_product t way small.light apart);
+      slow = omega (arith, reach_le 130 (sine_form (t *ₚ way)) within);
     }
+
+module _ (w : List ℕ) (v : FormalPoint) (word : IsWord w) (shift : IsShift w v) where
+  conjugate_small : IsSmall (conj v)
+  conjugate_small = IsSmall-conj v (shift_small w v word shift)
+
+  pub function_limits : (k l : ℕ) → IsPlace w k → IsPlace w l → IsWithinFunctionLimits (defining_function v w k l)
+  unfolding defining_function
+  function_limits k l upper lower =
+      form_limits (conj v) (upper_corner w k -ₚ lower_corner w l) conjugate_small (ends_apart w k l _ _ word upper lower)
+      (IsWithin_difference 65 _ _ (upper_small w k word upper).within (lower_small w l word lower).within)
+
+  -- the first edge is there where any is
+  first_place : (k : ℕ) → IsPlace w k → IsPlace w 1
+  first_place k place = (omega arith, omega (arith, place))
+
+  pub upper_height_limits : (k : ℕ) → IsPlace w k → IsWithinFunctionLimits (upper_height v w k)
+  unfolding height
+  upper_height_limits k place =
+      let first = first_place k place in
+      form_limits (conj v) (upper_corner w k -ₚ lower_corner w 1) conjugate_small (ends_apart w k 1 _ _ word place first)
+      (IsWithin_difference 65 _ _ (upper_small w k word place).within (lower_small w 1 word first).within)
+
+  pub lower_height_limits : (l : ℕ) → IsPlace w l → IsWithinFunctionLimits (lower_height v w l)
+  unfolding height
+  lower_height_limits l place =
+      let first = first_place l place in
+      form_limits (conj v) (lower_corner w l -ₚ lower_corner w 1) conjugate_small (ends_apart w l 1 _ _ word place first)
+      (IsWithin_difference 65 _ _ (lower_small w l word place).within (lower_small w 1 word first).within)
+
+-- what a function bends for each unit of weight
+pub function_bend : (f : FormalPoint) → IsWithinFunctionLimits f → bend f ≤ 33800 * weight f
+function_bend f h = omega (arith, bend_le 130 f h.within)
 
 -- ---- the product of a small point and the difference of two is within the limits of sums
 pub light_way : (t p q : FormalPoint) → IsSmall t → IsSmall p → IsSmall q → weight t * weight (p -ₚ q) ≤ greatest_weight

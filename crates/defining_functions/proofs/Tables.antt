@@ -18,3 +18,9 @@ IsTable-snoc {A} P n xs x h is = record {
         subst (P i) (sym here) (subst (λ j. P j x) i_is is)
   ];
 }
+
+pub IsTable-nil : {A : Type 0} (P : ℕ → A → Type 0) → IsTable P 0 []
+IsTable-nil P = record { count = omega arith; each = λ i x below. absurd (omega (arith, below)) }
+
+pub IsTable-weaker : {A : Type 0} (P Q : ℕ → A → Type 0) (n : ℕ) (xs : List A) → ((i : ℕ) (x : A) → P i x → Q i x) → IsTable P n xs → IsTable Q n xs
+IsTable-weaker P Q n xs weaker h = record { count = h.count; each = λ i x below. weaker i (slice_index_or xs i x) (h.each i x below) }

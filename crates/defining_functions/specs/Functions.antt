@@ -1,4 +1,4 @@
--- The defining functions of a word, one for each upper and each lower corner of its unfolding.
+-- The defining functions of a word, one for each upper and each lower corner of its unfolding, and the heights of the corners.
 -- A path with the word runs along the shift, over every lower corner and under every upper one. So there is one where each upper corner lies to the
 -- left of each lower corner, seen along the shift.
 -- Source: Richard Evan Schwartz, Obtuse Triangular Billiards I: Near the (2, 3, 6) Triangle, Experimental Mathematics 15 (2006), where these sums of

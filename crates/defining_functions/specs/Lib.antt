@@ -1,3 +1,5 @@
 pub mod Functions
+pub mod Heights
+pub mod Laws
 pub mod Tables
 pub mod Kept

@@ -5,16 +5,19 @@ ghost use Rattle.edge_words.specs.Word.{IsWord};
 ghost use Rattle.exp_sums.specs.FormalPoint.{FormalPoint};
 ghost use Rattle.exp_sums.specs.Limits.{weight};
 ghost use Rattle.exp_sums.specs.Reach.{reach};
+ghost use Rattle.exp_sums.specs.Bend.{bend};
 ghost use Rattle.unfolding.specs.Shift.{IsShift, HasShift};
 ghost use Rattle.defining_functions.specs.Functions.{defining_function, IsWithinFunctionLimits};
+ghost use Rattle.defining_functions.specs.Heights.{upper_height, lower_height};
+ghost use Rattle.defining_functions.specs.Kept.{sizes_of};
 ghost use Rattle.defining_functions.specs.declared.fault.FunctionsFault.TheVariants.{NotTranslate};
 
-use crate::corners::{lower_corners, upper_corners};
 use crate::fault::FunctionsFault;
-use crate::form::form;
-use crate::sizes::{Sizes, rows};
+use crate::side::Side;
+use crate::sides::{lower_side, upper_side};
+use crate::sizes::rows;
 use edge_words::Word;
-use exp_sums::ExpSum;
+use exp_sums::{ExpSum, Sizes};
 use std::alloc::{AllocError as OutOfMemory, Global};
 use std::marker::Model;
 use unfolding::Unfolding;
@@ -25,13 +28,11 @@ use unfolding::Unfolding;
 #[derive(Drop)]
 pub struct Functions {
     word: Word,
-    /// The conjugate of the shift.
-    conjugate: ExpSum,
-    /// The upper corners, from the first edge to the last.
-    uppers: Vec<ExpSum>,
-    /// The lower corners.
-    lowers: Vec<ExpSum>,
-    /// The sizes of the functions: a row for each upper corner, an entry in it for each lower one.
+    /// The heights of the upper corners.
+    uppers: Side,
+    /// The heights of the lower corners.
+    lowers: Side,
+    /// The sizes of the differences of heights: a row for each upper height, an entry in it for each lower one.
     rows: Vec<Vec<Sizes>>,
 }
 
@@ -44,7 +45,7 @@ impl Model for Functions {
 
     ghost view = { λ f. f.word };
 
-    ghost invariant = { λ f. IsFunctions f.word f.conjugate f.uppers.items f.lowers.items f.rows.items };
+    ghost invariant = { λ f. IsFunctions f.word f.uppers.heights.items f.uppers.places.items f.lowers.heights.items f.lowers.places.items f.rows.items };
 }
 
 impl Functions {
@@ -79,9 +80,9 @@ impl Functions {
         ensures is { IfOk result (λ f. (v : FormalPoint) → IsShift self.now v → f ≡ defining_function v self.now k l) }
         ensures limits { IfOk result (λ f. IsWithinFunctionLimits f) }
     {
-        let upper = &self.uppers[k as usize - 1];
-        let lower = &self.lowers[l as usize - 1];
-        form(alloc, &self.conjugate, upper, lower)
+        let mut function = self.upper_height(k).copied(alloc)?;
+        function.sub(self.lower_height(l))?;
+        Ok(function)
     }
 
     /// The weight of that function, the sum of |c| over its terms.
@@ -92,7 +93,7 @@ impl Functions {
         ensures is { (v : FormalPoint) → IsShift self.now v → result ≡ pos (weight (defining_function v self.now k l)) }
         ensures limit { result ≤ℤ pos 16384 }
     {
-        self.rows[k as usize - 1][l as usize - 1].weight
+        self.sizes(k, l).weight as i64
     }
 
     /// The reach of that function, the sum of |c|·(|m| + |n|) over its terms.
@@ -104,7 +105,53 @@ impl Functions {
         ensures limit { result ≤ℤ pos 4259840 }
         ensures by_weight { (v : FormalPoint) → IsShift self.now v → reach (defining_function v self.now k l) ≤ 260 * weight (defining_function v self.now k l) }
     {
-        self.rows[k as usize - 1][l as usize - 1].reach
+        self.sizes(k, l).reach as i64
+    }
+
+    /// The bend of that function, the sum of |c|·(m² + n²) over its terms.
+    pub fn bend(&self, k: u32, l: u32) -> i64
+        requires upper { IsPlace self.now k }
+        requires lower { IsPlace self.now l }
+        ensures shift { HasShift self.now }
+        ensures is { (v : FormalPoint) → IsShift self.now v → result ≡ pos (bend (defining_function v self.now k l)) }
+        ensures limit { result ≤ℤ pos 553779200 }
+        ensures by_weight { (v : FormalPoint) → IsShift self.now v → bend (defining_function v self.now k l) ≤ 33800 * weight (defining_function v self.now k l) }
+    {
+        self.sizes(k, l).bend as i64
+    }
+
+    /// The height of the k-th upper corner, counted from the first lower one.
+    pub fn upper_height(&self, k: u32) -> &ExpSum
+        requires { IsPlace self.now k }
+        ensures shift { HasShift self.now }
+        ensures word { IsWord self.now }
+        ensures is { (v : FormalPoint) → IsShift self.now v → result.now ≡ upper_height v self.now k }
+        ensures limits { IsWithinFunctionLimits result.now }
+    {
+        &self.uppers.heights[self.uppers.places[k as usize - 1]]
+    }
+
+    /// The height of the l-th lower corner, counted from the first one.
+    pub fn lower_height(&self, l: u32) -> &ExpSum
+        requires { IsPlace self.now l }
+        ensures shift { HasShift self.now }
+        ensures word { IsWord self.now }
+        ensures is { (v : FormalPoint) → IsShift self.now v → result.now ≡ lower_height v self.now l }
+        ensures limits { IsWithinFunctionLimits result.now }
+    {
+        &self.lowers.heights[self.lowers.places[l as usize - 1]]
+    }
+
+    /// The sizes of the function of the k-th upper and the l-th lower corner.
+    fn sizes(&self, k: u32, l: u32) -> Sizes
+        requires upper { IsPlace self.now k }
+        requires lower { IsPlace self.now l }
+        ensures word { IsWord self.now }
+        ensures shift { HasShift self.now }
+        ensures is { (v : FormalPoint) → IsShift self.now v → result ≡ sizes_of (defining_function v self.now k l) }
+    {
+        let row = &self.rows[self.uppers.places[k as usize - 1]];
+        row[self.lowers.places[l as usize - 1]]
     }
 
     /// The functions of a word with a shift.
@@ -114,12 +161,11 @@ impl Functions {
     {
         let conjugate = shift.conj(alloc)?;
         let word = u.word().copied();
-        let uppers = upper_corners(alloc, u)?;
-        let lowers = lower_corners(alloc, u)?;
-        let rows = rows(alloc, u, &conjugate)?;
+        let uppers = upper_side(alloc, u, &conjugate)?;
+        let lowers = lower_side(alloc, u, &conjugate)?;
+        let rows = rows(alloc, &uppers.heights, &lowers.heights)?;
         Ok(Functions {
             word,
-            conjugate,
             uppers,
             lowers,
             rows,

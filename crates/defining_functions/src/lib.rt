@@ -2,14 +2,17 @@
 //! one for each upper and each lower corner of the word's unfolding, positive where the upper one lies to the left of
 //! the lower one along the shift.
 //!
-//! The one contract of the crate: a [`Functions`] is seen as its word, and its calls answer each function, its weight
-//! and its reach as they are defined by the word's unfolding, within the stated limits.
+//! The one contract of the crate: a [`Functions`] is seen as its word, and its calls answer each function, its weight,
+//! its reach and its bend as they are defined by the word's unfolding, and the heights of the corners, whose differences
+//! the functions are, within the stated limits. The module [`laws`] says how they hang together.
 #![tactic(auto)]
 
-mod corners;
 mod fault;
-mod form;
 mod functions;
+mod height;
+pub mod laws;
+mod side;
+mod sides;
 mod sizes;
 #[cfg(test)]
 mod tests;

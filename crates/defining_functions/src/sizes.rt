@@ -1,56 +1,37 @@
-//! Weight and reach of each function, in a row for each upper corner.
-ghost use Rattle.std.specs.Prelude.{◌≡◌, ℕ, ◌+◌, ◌^◌, ◌≤◌, length, IfOk};
-ghost use Rattle.edge_words.specs.Letters.{IsPlace};
-ghost use Rattle.exp_sums.specs.FormalPoint.{FormalPoint, conj};
-ghost use Rattle.unfolding.specs.Shift.{IsShift};
-ghost use Rattle.defining_functions.specs.Kept.{IsSmall, IsRow};
-ghost use Rattle.defining_functions.specs.Tables.{IsTable};
+//! The sizes of the differences of heights, in a row for each height of the upper side.
+ghost use Rattle.std.specs.Prelude.{IfOk, length};
+ghost use Rattle.defining_functions.specs.Functions.{IsWithinFunctionLimits};
+ghost use Rattle.defining_functions.specs.Kept.{AreWithinLimits, IsRow, AreRows};
 
-use crate::form::form;
-use exp_sums::ExpSum;
+use exp_sums::{ExpSum, Sizes};
 use std::alloc::{AllocError as OutOfMemory, Global};
-use unfolding::Unfolding;
 
-/// How large a function is.
-#[derive(Clone, Copy, Debug, Drop)]
-pub struct Sizes {
-    /// The sum of |c|.
-    pub weight: i64,
-    /// The sum of |c|·(|m| + |n|).
-    pub reach: i64,
-}
-
-/// The sizes of the functions of the k-th upper corner, where `conjugate` is the conjugate of the shift.
-fn row(alloc: Global, u: &Unfolding, conjugate: &ExpSum, k: u32) -> Result<Vec<Sizes>, OutOfMemory>
-    requires place { IsPlace u.now k }
-    requires small { IsSmall conjugate.now }
-    requires conjugate { (v : FormalPoint) → IsShift u.now v → conjugate.now ≡ conj v }
-    ensures { IfOk result (λ row. IsRow u.now k row.items) }
+/// The sizes of one height less each of others.
+fn row(alloc: Global, upper: &ExpSum, lowers: &[ExpSum]) -> Result<Vec<Sizes>, OutOfMemory>
+    requires upper { IsWithinFunctionLimits upper.now }
+    requires lowers { AreWithinLimits lowers.now }
+    ensures { IfOk result (λ row. IsRow upper.now lowers.now row.items) }
 {
     let mut row = Vec::new(alloc);
-    for j in 0..u.letters() {
-        let function = form(alloc, conjugate, u.upper(k), u.lower(j + 1))?;
-        row.push(Sizes {
-            weight: function.weight(),
-            reach: function.reach(),
-        })?;
+    for lower in lowers {
+        row.push(upper.sizes_of_difference(lower))?;
     }
     Ok(row)
 }
 
-/// The sizes of all functions, where `conjugate` is the conjugate of the shift.
+/// The sizes of each of some heights less each of others.
 pub fn rows(
     alloc: Global,
-    u: &Unfolding,
-    conjugate: &ExpSum,
+    uppers: &[ExpSum],
+    lowers: &[ExpSum],
 ) -> Result<Vec<Vec<Sizes>>, OutOfMemory>
-    requires small { IsSmall conjugate.now }
-    requires conjugate { (v : FormalPoint) → IsShift u.now v → conjugate.now ≡ conj v }
-    ensures { IfOk result (λ rows. IsTable (λ i row. IsRow u.now (i + 1) row.items) (length u.now) rows.items) }
+    requires uppers { AreWithinLimits uppers.now }
+    requires lowers { AreWithinLimits lowers.now }
+    ensures { IfOk result (λ rows. AreRows uppers.now lowers.now rows.items) }
 {
     let mut rows = Vec::new(alloc);
-    for i in 0..u.letters() {
-        let next = row(alloc, u, conjugate, i + 1)?;
+    for upper in uppers {
+        let next = row(alloc, upper, lowers)?;
         rows.push(next)?;
     }
     Ok(rows)

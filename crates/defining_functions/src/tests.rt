@@ -29,6 +29,9 @@ fn tells_functions_of_123123(rt: HostRuntime) -> Result<(), Fail> {
     assert!(rt; first.terms() == terms.as_slice());
     assert_eq!(rt; (functions.weight(1, 1), functions.reach(1, 1)), (11, 36));
     assert_eq!(rt; (functions.weight(1, 4), functions.reach(1, 4)), (15, 64));
+    assert_eq!(rt; functions.bend(1, 1), 88);
+    assert!(rt; functions.upper_height(1).terms() == terms.as_slice());
+    assert!(rt; functions.lower_height(1).terms().is_empty());
     Ok(())
 }
 

@@ -1,5 +1,6 @@
 -- What the machine's operations round to, and how rounding goes with order.
-use Rattle.std.proofs.Common.{◌≡◌, refl, sym, subst, subst₂, cond, int_lt, ℕ, ◌*◌, ◌/◌, ◌<◌, ◌≤◌, Bool, true, false, ℤ, pos, negsuc, ◌+ℤ◌, ◌-ℤ◌, ◌*ℤ◌, ◌≤ℤ◌, ◌<ℤ◌, unsigned_abs, ◌^◌, FitsSigned, arith, mul-le-mul, mul-le-mul_left}
+use Rattle.std.proofs.Common.{◌≡◌, refl, sym, subst, subst₂, cond, int_lt, ℕ, ◌*◌, ◌/◌, ◌<◌, ◌≤◌, Bool, true, false, ℤ, pos, negsuc, ◌+ℤ◌, ◌-ℤ◌, ◌*ℤ◌}
+use Rattle.std.proofs.Common.{◌≤ℤ◌, ◌<ℤ◌, unsigned_abs, ◌^◌, FitsSigned, arith, mul-le-mul, mul-le-mul_left}
 use Rattle.std.proofs.Math.Nat.{mod-lt}
 use Rattle.std.proofs.lemmas.Nat.{div-add-mod'}
 use Rattle.std.proofs.lemmas.Int.{ints, clamps, by_lt_z, fits_signed_from_abs, unsigned_abs-mul}
@@ -125,7 +126,8 @@ max_second : (a b : ℤ) → a ≤ℤ b → int_max a b ≡ b
 max_second a b h = omega (arith, ints, clamps)
 
 -- the outer one of rounded numbers is the outer one rounded
-pub outer_rounded : (up : Bool) (q n q' n' : ℤ) (d : ℕ) → 0 < d → IsRounded up q n (pos d) → IsRounded up q' n' (pos d) → IsRounded up (outer up q q') (outer up n n') (pos d)
+pub outer_rounded : (up : Bool) (q n q' n' : ℤ) (d : ℕ) → 0 < d → IsRounded up q n (pos d) → IsRounded up q' n' (pos d)
+    → IsRounded up (outer up q q') (outer up n n') (pos d)
 outer_rounded false q n q' n' d p h h' =
     by_lt_z n' n
     (λ l. let k : n' ≤ℤ n = omega (arith, ints) in

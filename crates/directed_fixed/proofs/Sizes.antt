@@ -1,5 +1,6 @@
 -- What ends of bounded sizes give.
-use Rattle.std.proofs.Common.{ℕ, ◌*◌, ◌^◌, ◌≤◌, ◌<◌, Bool, true, false, ℤ, pos, ◌+ℤ◌, ◌-ℤ◌, ◌*ℤ◌, ◌≤ℤ◌, unsigned_abs, FitsSigned, arith, ◌≡◌, refl, sym, subst, subst₂, ◌+◌, ◌<ℤ◌}
+use Rattle.std.proofs.Common.{ℕ, ◌*◌, ◌^◌, ◌≤◌, ◌<◌, Bool, true, false, ℤ, pos, ◌+ℤ◌, ◌-ℤ◌, ◌*ℤ◌, ◌≤ℤ◌, unsigned_abs, FitsSigned, arith, ◌≡◌, refl}
+use Rattle.std.proofs.Common.{sym, subst, subst₂, ◌+◌, ◌<ℤ◌}
 use Rattle.std.specs.Int.{w128, int_min, int_max}
 use Rattle.std.proofs.lemmas.Int.{ints, clamps, fits_signed_from_abs, by_lt_z}
 use Rattle.std.proofs.Math.IntN.{*ℤ_comm}
@@ -30,7 +31,8 @@ outer_product_size up x y m n h k =
     (outer_has up (λ z. unsigned_abs z ≤ m * n) _ _ (product_size x.hi y.lo m n h.high k.low) (product_size x.hi y.hi m n h.high k.high))
 
 -- so is a product of intervals, with the units taken off
-pub product_within : (x y r : Ends) (p m n k : ℕ) → 0 < p → IsFloor r.lo (least_product x y) (pos p) → IsCeiling r.hi (greatest_product x y) (pos p) → IsWithin m x → IsWithin n y → m * n ≤ k * p → IsWithin k r
+pub product_within : (x y r : Ends) (p m n k : ℕ) → 0 < p → IsFloor r.lo (least_product x y) (pos p) → IsCeiling r.hi (greatest_product x y) (pos p)
+    → IsWithin m x → IsWithin n y → m * n ≤ k * p → IsWithin k r
 product_within x y r p m n k positive low high h h' l =
     record {
       low = rounded_size false r.lo (least_product x y) p k positive low (omega (arith, outer_product_size false x y m n h h'));
@@ -74,14 +76,16 @@ multiple_in_order c x = in_order (c *ℤ x.lo) (c *ℤ x.hi)
     in_order a b = omega (arith, ints, clamps)
 
 -- the ends of a multiple, when they are at hand
-pub multiple_ends : (c : ℤ) (x : Ends) (lo hi : ℤ) → lo ≡ int_min (c *ℤ x.lo) (c *ℤ x.hi) → hi ≡ int_max (c *ℤ x.lo) (c *ℤ x.hi) → ◌≡◌ {A = Ends} (record { lo = lo; hi = hi }) (multiple_of c x)
+pub multiple_ends : (c : ℤ) (x : Ends) (lo hi : ℤ) → lo ≡ int_min (c *ℤ x.lo) (c *ℤ x.hi) → hi ≡ int_max (c *ℤ x.lo) (c *ℤ x.hi)
+    → ◌≡◌ {A = Ends} (record { lo = lo; hi = hi }) (multiple_of c x)
 multiple_ends c x lo hi low high = subst₂ (λ a b. ◌≡◌ {A = Ends} (record { lo = lo; hi = hi }) (record { lo = a; hi = b })) low high refl
 
 pub multiple_interval : (c : ℤ) (x r : Ends) → r ≡ multiple_of c x → IsWithin (2 ^ 100) (multiple_of c x) → IsInterval r
 multiple_interval c x r is size = subst IsInterval (sym is) (record { in_order = multiple_in_order c x; in_range = size })
 
 -- The width of a quotient: of the exact one, which is at most m, and less than one unit more at each end.
-pub quotient_width : (x r : Ends) (d w m : ℕ) → 0 < d → IsFloor r.lo x.lo (pos d) → IsCeiling r.hi x.hi (pos d) → x.hi ≤ℤ (x.lo +ℤ pos w) → w ≤ m * d → r.hi ≤ℤ (r.lo +ℤ pos (m + 1))
+pub quotient_width : (x r : Ends) (d w m : ℕ) → 0 < d → IsFloor r.lo x.lo (pos d) → IsCeiling r.hi x.hi (pos d) → x.hi ≤ℤ (x.lo +ℤ pos w) → w ≤ m * d
+    → r.hi ≤ℤ (r.lo +ℤ pos (m + 1))
 quotient_width x r d w m positive low high width room =
     by_lt_z (r.lo +ℤ pos (m + 1)) r.hi
     (λ wide.
@@ -115,16 +119,20 @@ multiple_within c x k m h l =
 pub sum_width : (x y : Ends) (v w : ℕ) → x.hi ≤ℤ (x.lo +ℤ pos v) → y.hi ≤ℤ (y.lo +ℤ pos w) → (sum_of x y).hi ≤ℤ ((sum_of x y).lo +ℤ pos (v + w))
 sum_width x y v w h k = omega (arith, ints)
 
-pub difference_width : (x y : Ends) (v w : ℕ) → x.hi ≤ℤ (x.lo +ℤ pos v) → y.hi ≤ℤ (y.lo +ℤ pos w) → (difference_of x y).hi ≤ℤ ((difference_of x y).lo +ℤ pos (v + w))
+pub difference_width : (x y : Ends) (v w : ℕ) → x.hi ≤ℤ (x.lo +ℤ pos v) → y.hi ≤ℤ (y.lo +ℤ pos w)
+    → (difference_of x y).hi ≤ℤ ((difference_of x y).lo +ℤ pos (v + w))
 difference_width x y v w h k = omega (arith, ints)
 
-pub multiple_width : (c : ℕ) (x : Ends) (w : ℕ) → x.lo ≤ℤ x.hi → x.hi ≤ℤ (x.lo +ℤ pos w) → (multiple_of (pos c) x).hi ≤ℤ ((multiple_of (pos c) x).lo +ℤ pos (c * w))
+pub multiple_width : (c : ℕ) (x : Ends) (w : ℕ) → x.lo ≤ℤ x.hi → x.hi ≤ℤ (x.lo +ℤ pos w)
+    → (multiple_of (pos c) x).hi ≤ℤ ((multiple_of (pos c) x).lo +ℤ pos (c * w))
 multiple_width c x w h k =
     let order : (x.lo *ℤ pos c) ≤ℤ (x.hi *ℤ pos c) = *ℤ_mono x.lo x.hi c h in
     let near : (x.hi *ℤ pos c) ≤ℤ ((x.lo +ℤ pos w) *ℤ pos c) = *ℤ_mono x.hi (x.lo +ℤ pos w) c k in
-    let same : (x.lo +ℤ pos w) *ℤ pos c ≡ x.lo *ℤ pos c +ℤ pos (c * w) = ring₃ ℤ_ring (λ a w c. (a ⊞ w) ⊠ c) (λ a w c. a ⊠ c ⊞ c ⊠ w) refl x.lo (pos w) (pos c) in
+    let same : (x.lo +ℤ pos w) *ℤ pos c ≡ x.lo *ℤ pos c +ℤ pos (c * w) = ring₃ ℤ_ring (λ a w c.
+    (a ⊞ w) ⊠ c) (λ a w c. a ⊠ c ⊞ c ⊠ w) refl x.lo (pos w) (pos c) in
     let gap : (x.hi *ℤ pos c) ≤ℤ (x.lo *ℤ pos c +ℤ pos (c * w)) = subst (λ t. (x.hi *ℤ pos c) ≤ℤ t) same near in
-    subst₂ (λ a b. int_max a b ≤ℤ (int_min a b +ℤ pos (c * w))) (*ℤ_comm x.lo (pos c)) (*ℤ_comm x.hi (pos c)) (spread (x.lo *ℤ pos c) (x.hi *ℤ pos c) (pos (c * w)) order gap)
+    subst₂ (λ a b. int_max a b ≤ℤ (int_min a b +ℤ pos (c * w))) (*ℤ_comm x.lo (pos c)) (*ℤ_comm x.hi (pos c))
+    (spread (x.lo *ℤ pos c) (x.hi *ℤ pos c) (pos (c * w)) order gap)
   where
     spread : (a b w : ℤ) → a ≤ℤ b → b ≤ℤ (a +ℤ w) → int_max a b ≤ℤ (int_min a b +ℤ w)
     spread a b w h k = omega (arith, ints, clamps)

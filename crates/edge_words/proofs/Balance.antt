@@ -1,5 +1,6 @@
 -- How often a letter stands at odd and at even places of the first letters.
-use Rattle.std.proofs.Common.{◌≡◌, ◌≢◌, ℕ, ◌+◌, ◌%◌, ◌<◌, ◌≤◌, ◌==◌, List, [], ◌∷◌, ◌++◌, length, get_or, take, cond, inl, inr, zero-add, add-zero, subst, ◌∙◌, ap, arith}
+use Rattle.std.proofs.Common.{◌≡◌, ◌≢◌, ℕ, ◌+◌, ◌%◌, ◌<◌, ◌≤◌, ◌==◌, List, [], ◌∷◌, ◌++◌, length, get_or, take, cond, inl, inr, zero-add, add-zero}
+use Rattle.std.proofs.Common.{subst, ◌∙◌, ap, arith}
 use Rattle.std.proofs.lemmas.Bool.{cases_lt}
 use Rattle.std.proofs.lemmas.Bool.Decides.{nat_tests}
 use Rattle.std.proofs.lemmas.List.{take_all, take_more, length-take-le}
@@ -20,14 +21,18 @@ pub count_of-append : (x : ℕ) (xs ys : List ℕ) → count_of x (xs ++ ys) ≡
 count_of-append x xs ys = sum_by-append (λ y. cond (y == x) 1 0) xs ys
 
 -- how often a letter stands at the odd and at the even places of two joined parts, the first with an even number of letters
-pub counts_even : (x : ℕ) (p q : List ℕ) → length p % 2 ≡ 0 → (count_of x (at_odd_places (p ++ q)) ≡ count_of x (at_odd_places p) + count_of x (at_odd_places q)) × (count_of x (at_even_places (p ++ q)) ≡ count_of x (at_even_places p) + count_of x (at_even_places q))
+pub counts_even : (x : ℕ) (p q : List ℕ) → length p % 2 ≡ 0 → (count_of x (at_odd_places (p ++ q))
+    ≡ count_of x (at_odd_places p) + count_of x (at_odd_places q)) × (count_of x (at_even_places (p ++ q))
+    ≡ count_of x (at_even_places p) + count_of x (at_even_places q))
 counts_even x p q h = (
   ap (count_of x) (at_odd_places-append_even p q h) ∙ count_of-append x (at_odd_places p) (at_odd_places q),
   ap (count_of x) (at_even_places-append_even p q h) ∙ count_of-append x (at_even_places p) (at_even_places q),
 )
 
 -- the same, the first with an odd number of letters
-pub counts_odd : (x : ℕ) (p q : List ℕ) → length p % 2 ≡ 1 → (count_of x (at_odd_places (p ++ q)) ≡ count_of x (at_odd_places p) + count_of x (at_even_places q)) × (count_of x (at_even_places (p ++ q)) ≡ count_of x (at_even_places p) + count_of x (at_odd_places q))
+pub counts_odd : (x : ℕ) (p q : List ℕ) → length p % 2 ≡ 1 → (count_of x (at_odd_places (p ++ q))
+    ≡ count_of x (at_odd_places p) + count_of x (at_even_places q)) × (count_of x (at_even_places (p ++ q))
+    ≡ count_of x (at_even_places p) + count_of x (at_odd_places q))
 counts_odd x p q h = (
   ap (count_of x) (at_odd_places-append_odd p q h) ∙ count_of-append x (at_odd_places p) (at_even_places q),
   ap (count_of x) (at_even_places-append_odd p q h) ∙ count_of-append x (at_even_places p) (at_odd_places q),
@@ -42,7 +47,8 @@ abbrev pub even_count : ℕ → List ℕ → ℕ → ℕ
 even_count x w i = count_of x (at_even_places (take i w))
 
 -- one more letter at an odd place
-pub step_at_odd : (x : ℕ) (w : List ℕ) (i : ℕ) → i < length w → i % 2 ≡ 0 → (odd_count x w (i + 1) ≡ odd_count x w i + once x (get_or w i 0)) × (even_count x w (i + 1) ≡ even_count x w i)
+pub step_at_odd : (x : ℕ) (w : List ℕ) (i : ℕ) → i < length w → i % 2 ≡ 0 → (odd_count x w (i + 1) ≡ odd_count x w i + once x (get_or w i 0))
+    × (even_count x w (i + 1) ≡ even_count x w i)
 step_at_odd x w i h even =
     let y = get_or w i 0 in
     let more = take_more w i 0 h in
@@ -53,7 +59,8 @@ step_at_odd x w i h even =
     )
 
 -- one more letter at an even place
-pub step_at_even : (x : ℕ) (w : List ℕ) (i : ℕ) → i < length w → i % 2 ≡ 1 → (odd_count x w (i + 1) ≡ odd_count x w i) × (even_count x w (i + 1) ≡ even_count x w i + once x (get_or w i 0))
+pub step_at_even : (x : ℕ) (w : List ℕ) (i : ℕ) → i < length w → i % 2 ≡ 1 → (odd_count x w (i + 1) ≡ odd_count x w i)
+    × (even_count x w (i + 1) ≡ even_count x w i + once x (get_or w i 0))
 step_at_even x w i h odd =
     let y = get_or w i 0 in
     let more = take_more w i 0 h in
@@ -71,7 +78,8 @@ pub record IsCounted (x : ℕ) (w : List ℕ) (i at_odd at_even : ℕ) : Type 0 
   pub even_bound : at_even ≤ i
 
 -- another letter leaves both counts
-pub another_letter : (x : ℕ) (w : List ℕ) (i at_odd at_even : ℕ) → i < length w → get_or w i 0 ≢ x → IsCounted x w i at_odd at_even → IsCounted x w (i + 1) at_odd at_even
+pub another_letter : (x : ℕ) (w : List ℕ) (i at_odd at_even : ℕ) → i < length w → get_or w i 0 ≢ x → IsCounted x w i at_odd at_even
+    → IsCounted x w (i + 1) at_odd at_even
 another_letter x w i at_odd at_even h other is =
     let none : once x (get_or w i 0) ≡ 0 = grind (arith, nat_tests) in
     elim (cases_lt (i % 2) 1) [
@@ -84,21 +92,24 @@ another_letter x w i at_odd at_even h other is =
     ]
 
 -- the letter at an odd place
-pub found_at_odd : (x : ℕ) (w : List ℕ) (i at_odd at_even : ℕ) → i < length w → get_or w i 0 ≡ x → i % 2 ≡ 0 → IsCounted x w i at_odd at_even → IsCounted x w (i + 1) (at_odd + 1) at_even
+pub found_at_odd : (x : ℕ) (w : List ℕ) (i at_odd at_even : ℕ) → i < length w → get_or w i 0 ≡ x → i % 2 ≡ 0 → IsCounted x w i at_odd at_even
+    → IsCounted x w (i + 1) (at_odd + 1) at_even
 found_at_odd x w i at_odd at_even h found even is =
     let one : once x (get_or w i 0) ≡ 1 = grind (arith, nat_tests) in
     let s = step_at_odd x w i h even in
     record { odd = omega (arith, s, one, is); even = omega (arith, s, is); odd_bound = omega (arith, is); even_bound = omega (arith, is) }
 
 -- the letter at an even place
-pub found_at_even : (x : ℕ) (w : List ℕ) (i at_odd at_even : ℕ) → i < length w → get_or w i 0 ≡ x → i % 2 ≢ 0 → IsCounted x w i at_odd at_even → IsCounted x w (i + 1) at_odd (at_even + 1)
+pub found_at_even : (x : ℕ) (w : List ℕ) (i at_odd at_even : ℕ) → i < length w → get_or w i 0 ≡ x → i % 2 ≢ 0 → IsCounted x w i at_odd at_even
+    → IsCounted x w (i + 1) at_odd (at_even + 1)
 found_at_even x w i at_odd at_even h found odd is =
     let one : once x (get_or w i 0) ≡ 1 = grind (arith, nat_tests) in
     let s = step_at_even x w i h (omega arith) in
     record { odd = omega (arith, s, is); even = omega (arith, s, one, is); odd_bound = omega (arith, is); even_bound = omega (arith, is) }
 
 -- the counts among all letters
-pub all_counted : (x : ℕ) (w : List ℕ) (i at_odd at_even : ℕ) → length w ≤ i → IsCounted x w i at_odd at_even → (at_odd ≡ count_of x (at_odd_places w)) × (at_even ≡ count_of x (at_even_places w))
+pub all_counted : (x : ℕ) (w : List ℕ) (i at_odd at_even : ℕ) → length w ≤ i → IsCounted x w i at_odd at_even
+    → (at_odd ≡ count_of x (at_odd_places w)) × (at_even ≡ count_of x (at_even_places w))
 all_counted x w i at_odd at_even h is =
     (is.odd ∙ ap (λ ys. count_of x (at_odd_places ys)) (take_all i w h), is.even ∙ ap (λ ys. count_of x (at_even_places ys)) (take_all i w h))
 

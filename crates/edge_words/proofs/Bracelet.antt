@@ -1,5 +1,6 @@
 -- The least of the rotations, and the least of a bracelet.
-use Rattle.std.proofs.Common.{◌≡◌, ℕ, true, false, ◌+◌, ◌<◌, ◌≤◌, List, ◌++◌, length, take, drop, reverse, inl, inr, sym, ◌∙◌, ap, subst, arith, below_more, length-take-le, length-drop}
+use Rattle.std.proofs.Common.{◌≡◌, ℕ, true, false, ◌+◌, ◌<◌, ◌≤◌, List, ◌++◌, length, take, drop, reverse, inl, inr, sym, ◌∙◌, ap, subst, arith}
+use Rattle.std.proofs.Common.{below_more, length-take-le, length-drop}
 use Rattle.std.specs.declared.cmp.Ordering.{Ordering}
 use Rattle.std.specs.Ordering.{nat_cmp, is_lt, ordering_then}
 use Rattle.std.specs.Cmp.Lexicographic.{slice_cmp}
@@ -10,13 +11,17 @@ use Rattle.edge_words.proofs.Rotations.{IsRotation-rotation, IsRotation-back, Is
 use Rattle.edge_words.proofs.Turns.{length-rotated}
 
 -- a rotation compares by the letters before its seam and then by those behind it
-pub compare_parts : (by : ℕ) (w others head tail first rest : List ℕ) (front back whole : Ordering) → head ≡ take by w → tail ≡ drop by w → first ≡ take (length tail) others → rest ≡ drop (length tail) others → length w ≡ length others → front ≡ slice_cmp nat_cmp tail first → back ≡ slice_cmp nat_cmp head rest → whole ≡ ordering_then front back → whole ≡ slice_cmp nat_cmp (rotated by w) others
+pub compare_parts : (by : ℕ) (w others head tail first rest : List ℕ) (front back whole : Ordering) → head ≡ take by w → tail ≡ drop by w
+    → first ≡ take (length tail) others → rest ≡ drop (length tail) others → length w ≡ length others → front ≡ slice_cmp nat_cmp tail first
+    → back ≡ slice_cmp nat_cmp head rest → whole ≡ ordering_then front back → whole ≡ slice_cmp nat_cmp (rotated by w) others
 compare_parts by w others head tail first rest front back whole is_head is_tail is_first is_rest len is_front is_back is_whole =
     let short : length tail ≤ length others = omega (arith, ap length is_tail, length-drop by w) in
     let same : length tail ≡ length first = sym (ap length is_first ∙ length-take-le (length tail) others short) in
     let turned : tail ++ head ≡ rotated by w = ap (λ t. t ++ head) is_tail ∙ ap (λ h. drop by w ++ h) is_head in
-    let joined : first ++ rest ≡ others = ap (λ f. f ++ rest) is_first ∙ ap (λ r. take (length tail) others ++ r) is_rest ∙ take-append-drop (length tail) others in
-    is_whole ∙ ap (λ o. ordering_then o back) is_front ∙ ap (ordering_then (slice_cmp nat_cmp tail first)) is_back ∙ sym (slice_cmp-append tail head first rest same) ∙ ap (λ v. slice_cmp nat_cmp v (first ++ rest)) turned ∙ ap (slice_cmp nat_cmp (rotated by w)) joined
+    let joined : first ++ rest ≡ others = ap (λ f. f ++ rest) is_first ∙ ap (λ r. take (length tail) others ++ r) is_rest
+    ∙ take-append-drop (length tail) others in
+    is_whole ∙ ap (λ o. ordering_then o back) is_front ∙ ap (ordering_then (slice_cmp nat_cmp tail first)) is_back
+    ∙ sym (slice_cmp-append tail head first rest same) ∙ ap (λ v. slice_cmp nat_cmp v (first ++ rest)) turned ∙ ap (slice_cmp nat_cmp (rotated by w)) joined
 
 -- a rotation that is at most each by fewer than n letters
 pub record IsLeastBelow (w v : List ℕ) (n : ℕ) : Type 0 where
@@ -38,7 +43,8 @@ least_kept w v n not_less is = record {
 }
 
 -- one more rotation, which is less
-pub least_replaced : (w v u : List ℕ) (n : ℕ) → n < length w → is_lt (slice_cmp nat_cmp (rotated n w) v) ≡ true → u ≡ rotated n w → IsLeastBelow w v n → IsLeastBelow w u (n + 1)
+pub least_replaced : (w v u : List ℕ) (n : ℕ) → n < length w → is_lt (slice_cmp nat_cmp (rotated n w) v) ≡ true → u ≡ rotated n w
+    → IsLeastBelow w v n → IsLeastBelow w u (n + 1)
 least_replaced w v u n h less e is =
     let below : IsAtMost u v = subst (λ x. IsAtMost x v) (sym e) (at_most_where_less (rotated n w) v less) in
     record {
@@ -51,7 +57,9 @@ pub length_of_rotation : (w v : List ℕ) → IsRotation w v → length v ≡ le
 length_of_rotation w v turn = ap length turn.2 ∙ length-rotated turn.0 w (omega (arith, turn.1))
 
 -- what is at most the least of each way round is the bracelet's least
-pub least_of_both : (w v forwards backwards : List ℕ) → IsInBracelet w v → IsAtMost v forwards → IsAtMost v backwards → ((by : ℕ) → by < length w → IsAtMost forwards (rotated by w)) → ((by : ℕ) → by < length (reverse w) → IsAtMost backwards (rotated by (reverse w))) → IsCanonicalForm w v
+pub least_of_both : (w v forwards backwards : List ℕ) → IsInBracelet w v → IsAtMost v forwards → IsAtMost v backwards
+    → ((by : ℕ) → by < length w → IsAtMost forwards (rotated by w))
+    → ((by : ℕ) → by < length (reverse w) → IsAtMost backwards (rotated by (reverse w))) → IsCanonicalForm w v
 least_of_both w v forwards backwards of first second one other = record {
   in_bracelet = of;
   least = λ u h.
@@ -72,13 +80,15 @@ length_in_bracelet w v (inr turn) = length_of_rotation (reverse w) v turn ∙ le
 -- each of a bracelet has the others in its own
 pub bracelet_symmetric : (w v : List ℕ) → IsInBracelet w v → IsInBracelet v w
 bracelet_symmetric w v (inl turn) = inl (IsRotation-back w v turn)
-bracelet_symmetric w v (inr turn) = inr (subst (IsRotation (reverse v)) (reverse-reverse w) (IsRotation-reverse v (reverse w) (IsRotation-back (reverse w) v turn)))
+bracelet_symmetric w v (inr turn) = inr (subst (IsRotation (reverse v)) (reverse-reverse w)
+    (IsRotation-reverse v (reverse w) (IsRotation-back (reverse w) v turn)))
 
 bracelet_transitive : (w v u : List ℕ) → IsInBracelet w v → IsInBracelet v u → IsInBracelet w u
 bracelet_transitive w v u (inl first) (inl second) = inl (IsRotation-rotation w v u first second)
 bracelet_transitive w v u (inl first) (inr second) = inr (IsRotation-rotation (reverse w) (reverse v) u (IsRotation-reverse w v first) second)
 bracelet_transitive w v u (inr first) (inl second) = inr (IsRotation-rotation (reverse w) v u first second)
-bracelet_transitive w v u (inr first) (inr second) = inl (IsRotation-rotation w (reverse v) u (subst (λ x. IsRotation x (reverse v)) (reverse-reverse w) (IsRotation-reverse (reverse w) v first)) second)
+bracelet_transitive w v u (inr first) (inr second) = inl (IsRotation-rotation w (reverse v) u
+    (subst (λ x. IsRotation x (reverse v)) (reverse-reverse w) (IsRotation-reverse (reverse w) v first)) second)
 
 pub bracelet_shares_canonical_form : BraceletSharesCanonicalForm
 bracelet_shares_canonical_form w v u h is = record {

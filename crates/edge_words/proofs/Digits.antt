@@ -27,15 +27,20 @@ pub word_of_digits : (bytes w : List ℕ) → bytes ≡ digits_of w → All IsDi
 word_of_digits bytes w e digits good differ =
     let len : length bytes ≡ length w = ap length e ∙ length-map w (λ x. x + 48) in
     record {
-      letters = All-from_get_or IsLetter w 0 (λ k h. let d = All-get_or IsDigit bytes k 0 (omega (arith, len, h)) digits in let v : get_or bytes k 0 ≡ get_or w k 0 + 48 = ap (λ xs. get_or xs k 0) e ∙ digit_at w k h in (omega (arith, d, v), omega (arith, d, v)));
+      letters = All-from_get_or IsLetter w 0 (λ k h. let d = All-get_or IsDigit bytes k 0 (omega (arith, len, h)) digits in let v : get_or bytes k 0
+          ≡ get_or w k 0 + 48 = ap (λ xs. get_or xs k 0) e ∙ digit_at w k h in (omega (arith, d, v), omega (arith, d, v)));
       even_length = subst IsWordLength len good;
-      neighbours_differ = λ i place same. differ i (place.0, omega (arith, len, place)) (ap (λ xs. letter_at xs i) e ∙ letter_at-digits_of w i place ∙ ap (λ x. x + 48) same ∙ sym (letter_after-digits_of w i place) ∙ sym (ap (λ xs. letter_after xs i) e));
+      neighbours_differ = λ i place same. differ i (place.0, omega (arith, len, place))
+          (ap (λ xs. letter_at xs i) e ∙ letter_at-digits_of w i place ∙ ap (λ x. x + 48) same ∙ sym (letter_after-digits_of w i place)
+          ∙ sym (ap (λ xs. letter_after xs i) e));
     }
 
 -- what spells a word is digits
 pub digits_of_word : (bytes w : List ℕ) → Spells bytes w → All IsDigit bytes
 digits_of_word bytes w s =
-    subst (All IsDigit) (sym s.digits) (All-from_get_or IsDigit (digits_of w) 0 (λ k h. let l : k < length w = omega (arith, h, length-map w (λ x. x + 48)) in let d = All-get_or IsLetter w k 0 l s.is_word.letters in (omega (arith, d, digit_at w k l), omega (arith, d, digit_at w k l))))
+    subst (All IsDigit) (sym s.digits) (All-from_get_or IsDigit (digits_of w) 0
+    (λ k h. let l : k < length w = omega (arith, h, length-map w (λ x. x + 48)) in let d = All-get_or IsLetter w k 0 l s.is_word.letters in
+    (omega (arith, d, digit_at w k l), omega (arith, d, digit_at w k l))))
 
 -- what spells a word has the word's length
 pub length_of_word : (bytes w : List ℕ) → Spells bytes w → IsWordLength (length bytes)
@@ -45,7 +50,8 @@ length_of_word bytes w s = subst IsWordLength (sym (ap length s.digits ∙ lengt
 pub neighbours_of_word : (bytes w : List ℕ) → Spells bytes w → NeighboursDiffer bytes
 neighbours_of_word bytes w s i place same =
     let place' : IsPlace w i = (place.0, omega (arith, place, ap length s.digits, length-map w (λ x. x + 48))) in
-    let e : letter_at w i + 48 ≡ letter_after w i + 48 = sym (letter_at-digits_of w i place') ∙ sym (ap (λ xs. letter_at xs i) s.digits) ∙ same ∙ ap (λ xs. letter_after xs i) s.digits ∙ letter_after-digits_of w i place' in
+    let e : letter_at w i + 48 ≡ letter_after w i + 48 = sym (letter_at-digits_of w i place') ∙ sym (ap (λ xs. letter_at xs i) s.digits) ∙ same
+    ∙ ap (λ xs. letter_after xs i) s.digits ∙ letter_after-digits_of w i place' in
     s.is_word.neighbours_differ i place' (omega (arith, e))
 
 -- digits spell one list of letters
@@ -61,7 +67,8 @@ digits_of-injective (x ∷ w) (y ∷ v) e =
     cc
 
 -- the first byte of a list that is no digit
-pub first_other_at : (bytes : List ℕ) (k : ℕ) → k < length bytes → ¬ (IsDigit (get_or bytes k 0)) → ((i : ℕ) → i < k → IsDigit (get_or bytes i 0)) → IsFirstOther bytes (k + 1)
+pub first_other_at : (bytes : List ℕ) (k : ℕ) → k < length bytes → ¬ (IsDigit (get_or bytes k 0)) → ((i : ℕ) → i < k → IsDigit (get_or bytes i 0))
+    → IsFirstOther bytes (k + 1)
 first_other_at bytes k h other before =
     let e : k + 1 - 1 ≡ k = omega arith in
     record {
@@ -71,7 +78,8 @@ first_other_at bytes k h other before =
     }
 
 -- the first byte of a list that equals the next
-pub first_repeat_at : (bytes : List ℕ) (k : ℕ) → k < length bytes → get_or bytes k 0 ≡ get_or bytes ((k + 1) % length bytes) 0 → ((i : ℕ) → i < k → get_or bytes i 0 ≢ get_or bytes ((i + 1) % length bytes) 0) → IsFirstRepeat bytes (k + 1)
+pub first_repeat_at : (bytes : List ℕ) (k : ℕ) → k < length bytes → get_or bytes k 0 ≡ get_or bytes ((k + 1) % length bytes) 0
+    → ((i : ℕ) → i < k → get_or bytes i 0 ≢ get_or bytes ((i + 1) % length bytes) 0) → IsFirstRepeat bytes (k + 1)
 first_repeat_at bytes k h repeats before =
     let e : k + 1 - 1 ≡ k = omega arith in
     record {
@@ -91,11 +99,13 @@ pub record IsSpelledSoFar (digits : List ℕ) (i : ℕ) (letters : List ℕ) (ca
   pub room : capacity ≡ MAX_LETTERS
 
 -- one more
-pub spelled_more : (digits : List ℕ) (i : ℕ) (letters : List ℕ) (capacity : ℕ) → i < length digits → 48 ≤ get_or digits i 0 → IsSpelledSoFar digits i letters capacity → IsSpelledSoFar digits (i + 1) (letters ++ (get_or digits i 0 - 48) ∷ []) capacity
+pub spelled_more : (digits : List ℕ) (i : ℕ) (letters : List ℕ) (capacity : ℕ) → i < length digits → 48 ≤ get_or digits i 0
+    → IsSpelledSoFar digits i letters capacity → IsSpelledSoFar digits (i + 1) (letters ++ (get_or digits i 0 - 48) ∷ []) capacity
 spelled_more digits i letters capacity h digit is = record {
   spelled =
       let back : get_or digits i 0 - 48 + 48 ≡ get_or digits i 0 = omega arith in
-      take_more digits i 0 h ∙ ap (λ xs. xs ++ get_or digits i 0 ∷ []) is.spelled ∙ sym (map_push (λ x. x + 48) letters (get_or digits i 0 - 48) ∙ ap (λ x. digits_of letters ++ x ∷ []) back);
+      take_more digits i 0 h ∙ ap (λ xs. xs ++ get_or digits i 0 ∷ []) is.spelled
+      ∙ sym (map_push (λ x. x + 48) letters (get_or digits i 0 - 48) ∙ ap (λ x. digits_of letters ++ x ∷ []) back);
   count = omega (arith, length_push letters (get_or digits i 0 - 48), is);
   room = is.room;
 }
@@ -106,12 +116,14 @@ pub record IsWrittenSoFar (letters : List ℕ) (i : ℕ) (digits : List ℕ) (ca
   pub room : capacity ≡ MAX_LETTERS
 
 -- one more
-pub written_more : (letters : List ℕ) (i : ℕ) (digits : List ℕ) (capacity : ℕ) → i < length letters → IsWrittenSoFar letters i digits capacity → IsWrittenSoFar letters (i + 1) (digits ++ (get_or letters i 0 + 48) ∷ []) capacity
+pub written_more : (letters : List ℕ) (i : ℕ) (digits : List ℕ) (capacity : ℕ) → i < length letters → IsWrittenSoFar letters i digits capacity
+    → IsWrittenSoFar letters (i + 1) (digits ++ (get_or letters i 0 + 48) ∷ []) capacity
 written_more letters i digits capacity h is = record {
   written = ap (λ xs. xs ++ (get_or letters i 0 + 48) ∷ []) is.written ∙ sym (map_more (λ x. x + 48) letters i 0 h);
   room = is.room;
 }
 
 -- so many digits
-pub length_written : (letters : List ℕ) (i : ℕ) (digits : List ℕ) (capacity : ℕ) → i ≤ length letters → IsWrittenSoFar letters i digits capacity → length digits ≡ i
+pub length_written : (letters : List ℕ) (i : ℕ) (digits : List ℕ) (capacity : ℕ) → i ≤ length letters → IsWrittenSoFar letters i digits capacity
+    → length digits ≡ i
 length_written letters i digits capacity h is = ap length is.written ∙ length-map (take i letters) (λ x. x + 48) ∙ length-take-le i letters h

@@ -21,10 +21,12 @@ balanced_swap x p q h balanced =
 rotation_balanced : (x : ℕ) (w v : List ℕ) → length w % 2 ≡ 0 → IsRotation w v → IsBalanced x w → IsBalanced x v
 rotation_balanced x w v h turn balanced =
     let parts = take-append-drop turn.0 w in
-    subst (IsBalanced x) (sym turn.2) (balanced_swap x (take turn.0 w) (drop turn.0 w) (ap (λ u. length u % 2) parts ∙ h) (subst (IsBalanced x) (sym parts) balanced))
+    subst (IsBalanced x) (sym turn.2) (balanced_swap x (take turn.0 w) (drop turn.0 w) (ap (λ u. length u % 2) parts ∙ h)
+    (subst (IsBalanced x) (sym parts) balanced))
 
 -- read backwards, odd and even places change
-counts_backwards : (x : ℕ) (w : List ℕ) → length w % 2 ≡ 0 → (count_of x (at_odd_places (reverse w)) ≡ count_of x (at_even_places w)) × (count_of x (at_even_places (reverse w)) ≡ count_of x (at_odd_places w))
+counts_backwards : (x : ℕ) (w : List ℕ) → length w % 2 ≡ 0 → (count_of x (at_odd_places (reverse w)) ≡ count_of x (at_even_places w))
+    × (count_of x (at_even_places (reverse w)) ≡ count_of x (at_odd_places w))
 counts_backwards x [] h = (refl, refl)
 counts_backwards x (a ∷ []) h = absurd (omega arith)
 counts_backwards x (a ∷ (b ∷ w)) h =
@@ -42,7 +44,8 @@ reverse_balanced x w h balanced = let both = counts_backwards x w h in both.0 �
 -- a list is as stable as each of its bracelet
 pub bracelet_balanced : (x : ℕ) (w v : List ℕ) → length w % 2 ≡ 0 → IsInBracelet w v → IsBalanced x w → IsBalanced x v
 bracelet_balanced x w v h (inl turn) balanced = rotation_balanced x w v h turn balanced
-bracelet_balanced x w v h (inr turn) balanced = rotation_balanced x (reverse w) v (ap (λ n. n % 2) (length-reverse w) ∙ h) turn (reverse_balanced x w h balanced)
+bracelet_balanced x w v h (inr turn) balanced = rotation_balanced x (reverse w) v (ap (λ n. n % 2) (length-reverse w) ∙ h) turn
+    (reverse_balanced x w h balanced)
 
 pub bracelet_keeps_stability : BraceletKeepsStability
 bracelet_keeps_stability w v is h =

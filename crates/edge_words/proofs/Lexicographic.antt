@@ -14,12 +14,14 @@ ordering_then_assoc Equal b c = refl
 ordering_then_assoc Greater b c = refl
 
 -- lists in two parts, the first of one length, compare by the first parts and then by the second
-pub slice_cmp-append : (a b c d : List ℕ) → length a ≡ length c → slice_cmp nat_cmp (a ++ b) (c ++ d) ≡ ordering_then (slice_cmp nat_cmp a c) (slice_cmp nat_cmp b d)
+pub slice_cmp-append : (a b c d : List ℕ) → length a ≡ length c
+    → slice_cmp nat_cmp (a ++ b) (c ++ d) ≡ ordering_then (slice_cmp nat_cmp a c) (slice_cmp nat_cmp b d)
 slice_cmp-append [] b [] d h = refl
 slice_cmp-append [] b (y ∷ c) d h = absurd (omega arith)
 slice_cmp-append (x ∷ a) b [] d h = absurd (omega arith)
 slice_cmp-append (x ∷ a) b (y ∷ c) d h =
-    ap (ordering_then (nat_cmp x y)) (slice_cmp-append a b c d (omega arith)) ∙ sym (ordering_then_assoc (nat_cmp x y) (slice_cmp nat_cmp a c) (slice_cmp nat_cmp b d))
+    ap (ordering_then (nat_cmp x y)) (slice_cmp-append a b c d (omega arith))
+    ∙ sym (ordering_then_assoc (nat_cmp x y) (slice_cmp nat_cmp a c) (slice_cmp nat_cmp b d))
 
 -- at most, as the comparison the other way round
 not_greater : (o : Ordering) → IsTrue (is_le o) → is_gt o ≡ false

@@ -1,7 +1,9 @@
 -- Rotations of rotations, and of lists read backwards.
-use Rattle.std.proofs.Common.{◌≡◌, ℕ, ◌+◌, ◌-◌, ◌<◌, ◌≤◌, List, [], ◌++◌, reverse, length, take, drop, inl, inr, refl, sym, ◌∙◌, ap, subst, arith, append_assoc, length-append}
+use Rattle.std.proofs.Common.{◌≡◌, ℕ, ◌+◌, ◌-◌, ◌<◌, ◌≤◌, List, [], ◌++◌, reverse, length, take, drop, inl, inr, refl, sym, ◌∙◌, ap, subst, arith}
+use Rattle.std.proofs.Common.{append_assoc, length-append}
 use Rattle.std.proofs.lemmas.Bool.{cases_lt}
-use Rattle.std.proofs.lemmas.List.{append-nil, drop-append-le, drop-drop, drop_at, drop-take, length-reverse, nil_from_length, reverse-append, take-append-drop, take-append-le, take-take, take_at}
+use Rattle.std.proofs.lemmas.List.{append-nil, drop-append-le, drop-drop, drop_at, drop-take, length-reverse, nil_from_length, reverse-append}
+use Rattle.std.proofs.lemmas.List.{take-append-drop, take-append-le, take-take, take_at}
 use Rattle.edge_words.specs.Canonical.{rotated, IsRotation}
 
 -- two parts change places
@@ -27,19 +29,24 @@ IsRotation-upto w by some =
 -- the first a letters and b more
 take_add : (a b : ℕ) (w : List ℕ) → take a w ++ take b (drop a w) ≡ take (a + b) w
 take_add a b w =
-    ap (λ v. take a w ++ v) (sym (drop-take a b w)) ∙ ap (λ v. v ++ drop a (take (a + b) w)) (sym (take-take a (a + b) w (omega arith))) ∙ take-append-drop a (take (a + b) w)
+    ap (λ v. take a w ++ v) (sym (drop-take a b w)) ∙ ap (λ v. v ++ drop a (take (a + b) w)) (sym (take-take a (a + b) w (omega arith)))
+    ∙ take-append-drop a (take (a + b) w)
 
 -- a rotation that ends before the seam of another
 rotated_before : (a b : ℕ) (w : List ℕ) → b ≤ length (drop a w) → rotated b (rotated a w) ≡ rotated (a + b) w
 rotated_before a b w h =
-    ap (λ v. v ++ take b (rotated a w)) (drop-append-le b (drop a w) (take a w) h ∙ ap (λ v. v ++ take a w) (drop-drop b a w)) ∙ ap (λ v. drop (a + b) w ++ take a w ++ v) (take-append-le b (drop a w) (take a w) h) ∙ append_assoc (drop (a + b) w) (take a w) (take b (drop a w)) ∙ ap (λ v. drop (a + b) w ++ v) (take_add a b w)
+    ap (λ v. v ++ take b (rotated a w)) (drop-append-le b (drop a w) (take a w) h ∙ ap (λ v. v ++ take a w) (drop-drop b a w))
+    ∙ ap (λ v. drop (a + b) w ++ take a w ++ v) (take-append-le b (drop a w) (take a w) h)
+    ∙ append_assoc (drop (a + b) w) (take a w) (take b (drop a w)) ∙ ap (λ v. drop (a + b) w ++ v) (take_add a b w)
 
 -- one that goes on behind it
 rotated_behind : (m : ℕ) (p q : List ℕ) → m ≤ length p → rotated (length q + m) (q ++ p) ≡ rotated m (p ++ q)
 rotated_behind m p q h =
     let rest : drop (length q + m) (q ++ p) ≡ drop m p = sym (drop-drop m (length q) (q ++ p)) ∙ ap (drop m) (drop_at q p (length q) refl) in
-    let front : take (length q + m) (q ++ p) ≡ q ++ take m p = sym (take_add (length q) m (q ++ p)) ∙ ap (λ v. v ++ take m (drop (length q) (q ++ p))) (take_at q p (length q) refl) ∙ ap (λ v. q ++ take m v) (drop_at q p (length q) refl) in
-    ap (λ v. v ++ take (length q + m) (q ++ p)) rest ∙ ap (λ v. drop m p ++ v) front ∙ sym (append_assoc (drop m p) q (take m p)) ∙ ap (λ v. v ++ take m p) (sym (drop-append-le m p q h)) ∙ ap (λ v. drop m (p ++ q) ++ v) (sym (take-append-le m p q h))
+    let front : take (length q + m) (q ++ p) ≡ q ++ take m p = sym (take_add (length q) m (q ++ p))
+    ∙ ap (λ v. v ++ take m (drop (length q) (q ++ p))) (take_at q p (length q) refl) ∙ ap (λ v. q ++ take m v) (drop_at q p (length q) refl) in
+    ap (λ v. v ++ take (length q + m) (q ++ p)) rest ∙ ap (λ v. drop m p ++ v) front ∙ sym (append_assoc (drop m p) q (take m p))
+    ∙ ap (λ v. v ++ take m p) (sym (drop-append-le m p q h)) ∙ ap (λ v. drop m (p ++ q) ++ v) (sym (take-append-le m p q h))
 
 -- a rotation of a rotation is a rotation
 pub IsRotation-rotation : (w v u : List ℕ) → IsRotation w v → IsRotation v u → IsRotation w u
@@ -54,7 +61,8 @@ IsRotation-rotation w v u first second =
           let m = b - length (drop a w) in
           let short : m ≤ length (take a w) = omega (arith, second.1, ap length first.2, length-append (drop a w) (take a w)) in
           let whole : length (drop a w) + m ≡ b = omega arith in
-          let turned : rotated b (rotated a w) ≡ rotated m w = ap (λ n. rotated n (rotated a w)) (sym whole) ∙ rotated_behind m (take a w) (drop a w) short ∙ ap (rotated m) (take-append-drop a w) in
+          let turned : rotated b (rotated a w) ≡ rotated m w = ap (λ n. rotated n (rotated a w)) (sym whole)
+          ∙ rotated_behind m (take a w) (drop a w) short ∙ ap (rotated m) (take-append-drop a w) in
           subst (IsRotation w) (sym (again ∙ turned)) (IsRotation-upto w m some)
     ]
 
@@ -63,7 +71,8 @@ pub IsRotation-back : (w v : List ℕ) → IsRotation w v → IsRotation v w
 IsRotation-back w v turn =
     let a = turn.0 in
     let parts = take-append-drop a w in
-    let some : 0 < length (drop a w ++ take a w) = omega (arith, turn.1, length-append (drop a w) (take a w), ap length parts, length-append (take a w) (drop a w)) in
+    let some : 0 < length (drop a w
+    ++ take a w) = omega (arith, turn.1, length-append (drop a w) (take a w), ap length parts, length-append (take a w) (drop a w)) in
     subst (λ u. IsRotation u w) (sym turn.2) (subst (IsRotation (rotated a w)) parts (IsRotation-swap (drop a w) (take a w) some))
 
 -- a rotation read backwards is a rotation of the list read backwards
@@ -73,4 +82,5 @@ IsRotation-reverse w v turn =
     let parts : reverse (drop a w) ++ reverse (take a w) ≡ reverse w = sym (reverse-append (take a w) (drop a w)) ∙ ap reverse (take-append-drop a w) in
     let turned : reverse v ≡ reverse (take a w) ++ reverse (drop a w) = ap reverse turn.2 ∙ reverse-append (drop a w) (take a w) in
     let some : 0 < length (reverse (drop a w) ++ reverse (take a w)) = omega (arith, turn.1, ap length parts, length-reverse w) in
-    subst (IsRotation (reverse w)) (sym turned) (subst (λ u. IsRotation u (reverse (take a w) ++ reverse (drop a w))) parts (IsRotation-swap (reverse (drop a w)) (reverse (take a w)) some))
+    subst (IsRotation (reverse w)) (sym turned) (subst (λ u. IsRotation u (reverse (take a w) ++ reverse (drop a w))) parts
+    (IsRotation-swap (reverse (drop a w)) (reverse (take a w)) some))

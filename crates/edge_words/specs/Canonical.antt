@@ -1,5 +1,6 @@
 -- Rotations, reversals and the canonical form.
--- A closed path may be read from each of its crossings on, and both ways round. In combinatorics on words the rotations of a word and of its reversal are its bracelet, and the least of them stands for all.
+-- A closed path may be read from each of its crossings on, and both ways round. In combinatorics on words the rotations of a word and of its reversal
+-- are its bracelet, and the least of them stands for all.
 
 use Rattle.std.specs.Prelude.{◌≡◌, ◌⊎◌, ◌↔◌, ℕ, ◌<◌, List, ◌++◌, length, take, drop, reverse, IsTrue}
 use Rattle.std.specs.Ordering.{nat_cmp, is_le}

@@ -1,5 +1,6 @@
 -- Stable words.
--- A periodic path is stable where each triangle near by has a periodic path with the same word. The word alone decides this: each edge has to be crossed as often at odd as at even places.
+-- A periodic path is stable where each triangle near by has a periodic path with the same word. The word alone decides this: each edge has to be
+-- crossed as often at odd as at even places.
 -- Source: Richard Evan Schwartz, Obtuse Triangular Billiards I: Near the (2, 3, 6) Triangle, Experimental Mathematics 15 (2006).
 
 use Rattle.std.specs.Prelude.{◌≡◌, ◌==◌, ℕ, List, [], ◌∷◌, count_by}

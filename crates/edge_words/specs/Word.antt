@@ -1,6 +1,7 @@
 -- Words.
 -- A word is the list of the edges that a periodic billiard path in a triangle crosses in one period, an even number of them, and no edge twice in a row.
--- Source: Richard Evan Schwartz, Obtuse Triangular Billiards I: Near the (2, 3, 6) Triangle, Experimental Mathematics 15 (2006). The bounds on the length are this program's own.
+-- Source: Richard Evan Schwartz, Obtuse Triangular Billiards I: Near the (2, 3, 6) Triangle, Experimental Mathematics 15 (2006). The bounds on the
+-- length are this program's own.
 
 use Rattle.std.specs.Prelude.{◌≡◌, ◌≢◌, ℕ, ◌%◌, ◌≤◌, List, length, All}
 use Rattle.edge_words.specs.declared.TheConstants.{MAX_LETTERS}

@@ -10,6 +10,10 @@ pub mod Limits
 pub mod Place
 pub mod Kept
 pub mod Reach
+pub mod Bend
 pub mod SineLimits
 pub mod ProductLimits
 pub mod Listed
+pub mod DifferenceTerms
+pub mod Numbers
+pub mod SameTerms

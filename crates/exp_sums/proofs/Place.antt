@@ -18,7 +18,7 @@ use Rattle.exp_sums.specs.FormalPoint.{term_of}
 use Rattle.exp_sums.specs.Place.{IsPlaceOf, IsGapFor}
 
 -- ---- the order of canonical terms
-dir_later : (d e : Dir) → dir_cmp d e ≡ Less → dir_cmp e d ≡ Greater
+pub dir_later : (d e : Dir) → dir_cmp d e ≡ Less → dir_cmp e d ≡ Greater
 dir_later d e h = dir_cmp_total.antisymm e d ∙ ap ordering_reverse h
 
 before_at : (d : Dir) (ts : List Term) (i : ℕ) (x : Term) → T (is_before_all d ts) → i < length ts → dir_cmp d (get_or ts i x).dir ≡ Less

@@ -10,12 +10,13 @@ use Rattle.ring_solver.proofs.Whole.{ℤ_ring, ℤ_image}
 use Rattle.exp_sums.specs.declared.direction.Dir.{Dir}
 use Rattle.exp_sums.specs.declared.terms.Term.{Term}
 use Rattle.exp_sums.specs.Terms.{is_same_dir}
-use Rattle.exp_sums.specs.FormalPoint.{FormalPoint, terms, coefficient, term_neg, term_conj, dir_neg}
+use Rattle.exp_sums.specs.FormalPoint.{FormalPoint, terms, coefficient, term_neg, term_conj, dir_neg, ◌+ₚ◌, negative}
 use Rattle.exp_sums.specs.Weigh.{weigh_terms, weigh, weigh_ints}
 use Rattle.exp_sums.specs.SineForm.{is_upper, sine_terms, sine_form}
 use Rattle.exp_sums.proofs.Directions.{is_same_dir-Decides}
-use Rattle.exp_sums.proofs.Weigh.{weigh_terms-append, weigh-point_of, weigh_same, weigh_scaled, weigh_summed}
-use Rattle.exp_sums.proofs.SamePoint.{only_at, only_conjugate, coefficient_is}
+use Rattle.exp_sums.specs.Laws.{SineFormsAddUp}
+use Rattle.exp_sums.proofs.Weigh.{weigh_terms-append, weigh-point_of, weigh-+ₚ, weigh-negative, weigh_same, weigh_scaled, weigh_summed}
+use Rattle.exp_sums.proofs.SamePoint.{only_at, only_conjugate, coefficient_is, same_by_weight}
 
 -- ---- the half of the directions that is upper
 -- a direction and its conjugate are not both upper
@@ -120,3 +121,24 @@ coefficient-sine_form p d = coefficient_is (sine_form p) d ∙ in_ints (only_at 
     by_test false h =
         let scaled = weigh_scaled ℤ_ring ℤ_image (only_at d) (pos 0) p in
         weigh_same ℤ_ring ℤ_image _ _ (at_other d h) p ∙ scaled ∙ omega (arith, ints)
+
+-- ---- sine forms are linear
+sine_form-+ₚ : (p q : FormalPoint) → sine_form (p +ₚ q) ≡ sine_form p +ₚ sine_form q
+sine_form-+ₚ p q = same_by_weight _ _ (λ f.
+    let half = on_half ℤ_ring ℤ_image f in
+    in_ints f (p +ₚ q)
+    ∙ weigh-+ₚ ℤ_ring ℤ_image half p q
+    ∙ sym (weigh-+ₚ ℤ_ring ℤ_image f (sine_form p) (sine_form q) ∙ ap₂ ◌+ℤ◌ (in_ints f p) (in_ints f q)))
+
+sine_form-negative : (p : FormalPoint) → sine_form (negative p) ≡ negative (sine_form p)
+sine_form-negative p = same_by_weight _ _ (λ f.
+    let half = on_half ℤ_ring ℤ_image f in
+    in_ints f (negative p)
+    ∙ weigh-negative ℤ_ring ℤ_image half p
+    ∙ sym (weigh-negative ℤ_ring ℤ_image f (sine_form p) ∙ ap neg_ℤ (in_ints f p)))
+
+pub sine_forms_linear : SineFormsAddUp
+sine_forms_linear = record {
+  of_sum = sine_form-+ₚ;
+  of_difference = λ p q. sine_form-+ₚ p (negative q) ∙ ap (λ r. sine_form p +ₚ r) (sine_form-negative q);
+}

@@ -1,6 +1,7 @@
 -- What the sums over formal points are at each operation.
 use Rattle.std.proofs.Common.{◌≡◌, List, [], ◌∷◌, ◌++◌, map, ℤ, pos, ◌+ℤ◌, refl, sym, ap, ap₂, ◌∙◌}
-use Rattle.std.specs.List.{flat_map}
+use Rattle.std.specs.List.{flat_map, All}
+use Rattle.std.proofs.lemmas.List.Elements.{All-head, All-tail}
 use Rattle.ring_solver.specs.Ring.{CommutativeRing, Image}
 use Rattle.ring_solver.specs.Expression.{num, ◌⊞◌, ◌⊠◌, opp}
 use Rattle.ring_solver.proofs.Polynomials.{zero-add', zero-mul', add_left_comm}
@@ -167,3 +168,15 @@ module _ (K : CommutativeRing) (image : Image K) where
   -- functions that agree at each direction
   pub weigh_same : (f g : Dir → K.Element) → ((d : Dir) → f d ≡ g d) → (p : FormalPoint) → weigh K image f p ≡ weigh K image g p
   weigh_same f g same p = λ i. weigh K image (λ d. same d i) p
+
+  -- functions that agree at the directions of a point's own terms
+  weigh_terms_alike : (f g : Dir → K.Element) (ts : List Term) → All (λ (t : Term). f t.dir ≡ g t.dir) ts →
+      weigh_terms K image f ts ≡ weigh_terms K image g ts
+  weigh_terms_alike f g [] h = refl
+  weigh_terms_alike f g (t ∷ ts) h =
+      let P : Term → Type 0 = λ t. f t.dir ≡ g t.dir in
+      ap₂ K.add (ap (K.mul (image.of t.c)) (All-head P t ts h)) (weigh_terms_alike f g ts (All-tail P t ts h))
+
+  pub weigh_alike : (f g : Dir → K.Element) (p : FormalPoint) → All (λ (t : Term). f t.dir ≡ g t.dir) (terms p) →
+      weigh K image f p ≡ weigh K image g p
+  weigh_alike f g p h = weigh_terms_alike f g (terms p) h

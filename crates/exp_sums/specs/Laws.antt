@@ -1,9 +1,10 @@
 -- What formal points mean: the coefficients of each operation, and that a formal point is known by its coefficients.
-use Rattle.std.specs.Prelude.{◌≡◌, List, ℤ, pos, ◌+ℤ◌, ◌-ℤ◌, neg_ℤ, if◌then◌else◌, T}
+use Rattle.std.specs.Prelude.{◌≡◌, List, ℤ, pos, ◌+ℤ◌, ◌-ℤ◌, ◌*ℤ◌, neg_ℤ, if◌then◌else◌, T}
+use Rattle.std.specs.List.{All}
 use Rattle.exp_sums.specs.declared.direction.Dir.{Dir}
 use Rattle.exp_sums.specs.declared.terms.Term.{Term}
 use Rattle.exp_sums.specs.Terms.{is_same_dir, is_canonical, total_at}
-use Rattle.exp_sums.specs.FormalPoint.{FormalPoint, terms, coefficient, point_of, dir_sum, dir_neg, monomial, ◌+ₚ◌, negative, ◌*ₚ◌, conj}
+use Rattle.exp_sums.specs.FormalPoint.{FormalPoint, terms, coefficient, point_of, dir_sum, dir_neg, monomial, ◌+ₚ◌, ◌-ₚ◌, negative, ◌*ₚ◌, conj}
 use Rattle.exp_sums.specs.Weigh.{weigh_ints}
 use Rattle.exp_sums.specs.SineForm.{is_upper, sine_form}
 
@@ -40,3 +41,19 @@ ConjugatesNegateDirections = (p : FormalPoint) (d : Dir) → coefficient (conj p
 abbrev pub SineFormsSubtractConjugates : Type 0
 SineFormsSubtractConjugates = (p : FormalPoint) (d : Dir) →
     coefficient (sine_form p) d ≡ (if is_upper d then coefficient p d -ℤ coefficient p (dir_neg d) else pos 0)
+
+-- the sine form of a sum is the sum of the sine forms, and of a difference their difference
+pub record SineFormsAddUp : Type 0 where
+  pub of_sum : (p q : FormalPoint) → sine_form (p +ₚ q) ≡ sine_form p +ₚ sine_form q
+  pub of_difference : (p q : FormalPoint) → sine_form (p -ₚ q) ≡ sine_form p -ₚ sine_form q
+
+-- sums over the terms, of any function of the direction, are linear in the point
+pub record WeighingAddsUp : Type 0 where
+  pub of_sum : (f : Dir → ℤ) (p q : FormalPoint) → weigh_ints f (p +ₚ q) ≡ weigh_ints f p +ℤ weigh_ints f q
+  pub of_difference : (f : Dir → ℤ) (p q : FormalPoint) → weigh_ints f (p -ₚ q) ≡ weigh_ints f p -ℤ weigh_ints f q
+  pub of_term : (f : Dir → ℤ) (c : ℤ) (d : Dir) → weigh_ints f (monomial c d) ≡ c *ℤ f d
+
+-- only the directions of a point's own terms count
+abbrev pub OtherDirectionsAreFree : Type 0
+OtherDirectionsAreFree =
+    (f g : Dir → ℤ) (p : FormalPoint) → All (λ (t : Term). f t.dir ≡ g t.dir) (terms p) → weigh_ints f p ≡ weigh_ints g p

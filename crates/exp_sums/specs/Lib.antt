@@ -8,3 +8,5 @@ pub mod Limits
 pub mod Reach
 pub mod Products
 pub mod Place
+pub mod Bend
+pub mod Differences

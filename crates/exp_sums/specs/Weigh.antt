@@ -1,7 +1,7 @@
 -- Sums over the terms of a formal point, in any commutative ring with an image of the whole numbers.
 use Rattle.std.specs.Prelude.{List, [], ◌∷◌, ℤ}
 use Rattle.ring_solver.specs.Ring.{CommutativeRing, Image}
-use Rattle.ring_solver.proofs.Whole.{ℤ_ring, ℤ_image}
+use Rattle.ring_solver.specs.Whole.{ℤ_ring, ℤ_image}
 use Rattle.exp_sums.specs.declared.direction.Dir.{Dir}
 use Rattle.exp_sums.specs.declared.terms.Term.{Term}
 use Rattle.exp_sums.specs.FormalPoint.{FormalPoint, terms}

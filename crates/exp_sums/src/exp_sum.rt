@@ -1,15 +1,17 @@
 //! Finite sums of directions.
-ghost use Rattle.std.specs.Prelude.{◌≡◌, ◌+◌, ◌*◌, ◌<◌, ◌≤◌, pos, length, IsOk, OnOk, OnErr, IfOk};
+ghost use Rattle.std.specs.Prelude.{◌≡◌, ◌+◌, ◌*◌, ◌<◌, ◌≤◌, ◌↔◌, pos, length, IsOk, IsTrue, OnOk, OnErr, IfOk};
 ghost use Rattle.exp_sums.specs.FormalPoint.{FormalPoint, formal_point_code, point_of, terms, coefficient, zero_point, monomial, ◌+ₚ◌, ◌-ₚ◌, ◌*ₚ◌, conj};
 ghost use Rattle.exp_sums.specs.SineForm.{sine_form};
 ghost use Rattle.exp_sums.specs.Reach.{reach};
+ghost use Rattle.exp_sums.specs.Bend.{bend};
 ghost use Rattle.exp_sums.specs.Products.{SumsAreNear};
 ghost use Rattle.exp_sums.specs.Limits.{IsKept, IsWithinLimits, weight, greatest_weight};
 
 use crate::conjugates::{put_all_conj, put_all_sines};
+use crate::differences::sizes_of_difference;
 use crate::direction::Dir;
 use crate::products::put_products;
-use crate::sizes::{reach_of, weight_of};
+use crate::sizes::{Sizes, reach_of, weight_of};
 use crate::terms::{Term, Terms, make_room, place_of, put, put_all, put_all_negated};
 use smallvec::SmallVec;
 use std::alloc::{AllocError as OutOfMemory, Global};
@@ -52,6 +54,13 @@ impl ExpSum {
         Ok(ExpSum {
             terms: SmallVec::from_slice(alloc, &self.terms)?,
         })
+    }
+
+    /// Whether two sums are the same.
+    pub fn is_same(&self, other: &ExpSum) -> bool
+        ensures { IsTrue result ↔ (self.now ≡ other.now) }
+    {
+        self.terms() == other.terms()
     }
 
     /// The terms, by rising directions. None has the coefficient 0.
@@ -150,5 +159,14 @@ impl ExpSum {
         ensures { result ≡ pos (reach self.now) }
     {
         reach_of(&self.terms)
+    }
+    /// Weight, reach and bend of the sum less another one, which takes no memory.
+    pub fn sizes_of_difference(&self, other: &ExpSum) -> Sizes
+        requires { weight self.now + weight other.now ≤ greatest_weight }
+        ensures weight { result.weight ≡ weight (self.now -ₚ other.now) }
+        ensures reach { result.reach ≡ reach (self.now -ₚ other.now) }
+        ensures bend { result.bend ≡ bend (self.now -ₚ other.now) }
+    {
+        sizes_of_difference(&self.terms, &other.terms)
     }
 }

@@ -1,6 +1,6 @@
 //! What formal points mean, each law a function whose contract is the law. The program calls none of them.
 
-ghost use Rattle.exp_sums.specs.Laws.{TermsAreCanonical, ListsAddUp, CoefficientsTellPointsApart, MonomialsHaveOneTerm, SumsAddCoefficients, NegativesNegateCoefficients, ProductsConvolve, ConjugatesNegateDirections, SineFormsSubtractConjugates};
+ghost use Rattle.exp_sums.specs.Laws.{TermsAreCanonical, ListsAddUp, CoefficientsTellPointsApart, MonomialsHaveOneTerm, SumsAddCoefficients, NegativesNegateCoefficients, ProductsConvolve, ConjugatesNegateDirections, SineFormsSubtractConjugates, SineFormsAddUp, WeighingAddsUp, OtherDirectionsAreFree};
 
 /// The terms of a formal point rise by their directions, and none has the coefficient 0.
 pub fn terms_are_canonical()
@@ -46,4 +46,19 @@ pub fn conjugates_negate_directions()
 /// and n > 0. It is 0 at every other direction.
 pub fn sine_forms_subtract_conjugates()
     ensures { SineFormsSubtractConjugates }
+{}
+
+/// The sine form of a sum is the sum of the sine forms, and that of a difference their difference.
+pub fn sine_forms_add_up()
+    ensures { SineFormsAddUp }
+{}
+
+/// Sums over the terms of a point, of any function of the direction, are linear in the point.
+pub fn weighing_adds_up()
+    ensures { WeighingAddsUp }
+{}
+
+/// Two functions that agree at the directions of a point's terms have the same sum over them.
+pub fn other_directions_are_free()
+    ensures { OtherDirectionsAreFree }
 {}

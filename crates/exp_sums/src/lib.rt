@@ -8,6 +8,7 @@
 #![tactic(auto)]
 
 mod conjugates;
+mod differences;
 mod direction;
 mod exp_sum;
 pub mod laws;
@@ -19,4 +20,5 @@ mod tests;
 
 pub use direction::Dir;
 pub use exp_sum::ExpSum;
+pub use sizes::Sizes;
 pub use terms::Term;

@@ -2,7 +2,7 @@
 ghost use Rattle.std.specs.Prelude.{◌≡◌, ◌≤◌, IfOk, OnOk};
 ghost use Rattle.exp_sums.specs.Limits.{IsWithin, weight};
 
-use crate::{Dir, ExpSum, Term};
+use crate::{Dir, ExpSum, Sizes, Term};
 use std::alloc::{AllocError, Global};
 use std::process::Abort;
 use std::test::Fail;
@@ -222,5 +222,29 @@ fn multiplies_many_terms(rt: HostRuntime) -> Result<(), Fail> {
         term(6, 0, 4),
     ];
     assert_eq!(rt; product.terms(), terms.as_slice());
+    Ok(())
+}
+
+#[test]
+fn measures_differences(rt: HostRuntime) -> Result<(), Fail> {
+    let first = sum_of(&rt, rt.alloc(), &[(1, -1, 2), (3, 1, -1)])?;
+    let second = sum_of(&rt, rt.alloc(), &[(1, -1, -1), (2, 0, 4), (3, 1, -1)])?;
+    assert_eq!(rt;
+        first.sizes_of_difference(&second),
+        Sizes {
+            weight: 7,
+            reach: 14,
+            bend: 22
+        }
+    );
+    Ok(())
+}
+
+#[test]
+fn copies_sums(rt: HostRuntime) -> Result<(), Fail> {
+    let sum = sum_of(&rt, rt.alloc(), &MANY)?;
+    let copy = sum.copied(rt.alloc())?;
+    assert!(rt; copy.is_same(&sum));
+    assert_eq!(rt; copy.terms(), sum.terms());
     Ok(())
 }

@@ -30,30 +30,37 @@ use Rattle.gradient_bounds.proofs.Rows.{SomeFunction, each_meets_some, each_onwa
 -- ---- from the centre to a point
 
 -- the value changes by at most the drift
-within_drift : (box : Square) (p : Point) (f : FormalPoint) → IsInBox box p → FromSomeOn (λ n. abs (central_value n box f -ℚ value_at n f p.x p.y) ≤ℚ drift n box f)
+within_drift : (box : Square) (p : Point) (f : FormalPoint) → IsInBox box p
+    → FromSomeOn (λ n. abs (central_value n box f -ℚ value_at n f p.x p.y) ≤ℚ drift n box f)
 within_drift box p f within =
     let near = near_centre box p within in
-    onward_both (λ n steep nonneg. value_is_steep n steep nonneg f (centre box).x (centre box).y p.x p.y (half_side box) near.0 near.1) sine_is_lipschitz_lem pi_nonneg
+    onward_both (λ n steep nonneg. value_is_steep n steep nonneg f (centre box).x (centre box).y p.x p.y
+    (half_side box) near.0 near.1) sine_is_lipschitz_lem pi_nonneg
 
 -- so what exceeds the drift by a margin reaches the margin, and what lies as far below 0 stays below it
 still_above : (d m c p : ℚ) → abs (c -ℚ p) ≤ℚ d → d +ℚ m ≤ℚ c → m ≤ℚ p
-still_above d m c p near above = le₅ ℚ_ordered (λ d m c p a. m) (λ d m c p a. p) (λ d m c p a. le (c ⊟ p) a ∷ le a d ∷ le (d ⊞ m) c ∷ []) refl d m c p (abs (c -ℚ p)) (le_abs (c -ℚ p), (near, (above, tt)))
+still_above d m c p near above = le₅ ℚ_ordered (λ d m c p a. m) (λ d m c p a. p)
+    (λ d m c p a. le (c ⊟ p) a ∷ le a d ∷ le (d ⊞ m) c ∷ []) refl d m c p (abs (c -ℚ p)) (le_abs (c -ℚ p), (near, (above, tt)))
 
 still_below : (d m c p : ℚ) → abs (c -ℚ p) ≤ℚ d → c ≤ℚ neg_ℚ (d +ℚ m) → p ≤ℚ neg_ℚ m
 still_below d m c p near below =
-    le₅ ℚ_ordered (λ d m c p a. p) (λ d m c p a. opp m) (λ d m c p a. le (opp (c ⊟ p)) a ∷ le a d ∷ le c (opp (d ⊞ m)) ∷ []) refl d m c p (abs (c -ℚ p)) (neg_le_abs (c -ℚ p), (near, (below, tt)))
+    le₅ ℚ_ordered (λ d m c p a. p) (λ d m c p a. opp m) (λ d m c p a. le (opp (c ⊟ p)) a ∷ le a d ∷ le c (opp (d ⊞ m)) ∷ []) refl d m c p
+    (abs (c -ℚ p)) (neg_le_abs (c -ℚ p), (near, (below, tt)))
 
 -- ---- clear boxes
 
-clear_function_is_positive : (box : Square) (e : ℚ) (p : Point) → whole 0 <ℚ e → IsInBox box p → (f : FormalPoint) → IsClearFunctionOn box e f → IsPositiveAt f p.x p.y
+clear_function_is_positive : (box : Square) (e : ℚ) (p : Point) → whole 0 <ℚ e → IsInBox box p → (f : FormalPoint) → IsClearFunctionOn box e f
+    → IsPositiveAt f p.x p.y
 clear_function_is_positive box e p positive within f clear = (
   margin e f,
   margin_positive e f positive,
-  onward_both (λ n near above. still_above (drift n box f) (margin e f) (central_value n box f) (value_at n f p.x p.y) near above) (within_drift box p f within) clear,
+  onward_both (λ n near above. still_above (drift n box f) (margin e f) (central_value n box f) (value_at n f p.x p.y) near above)
+      (within_drift box p f within) clear,
 )
 
 pub clear_gives_corridor_lem : ClearGivesCorridor
-clear_gives_corridor_lem w box e positive clear p within = each_onward (IsClearFunctionOn box e) (λ f. IsPositiveAt f p.x p.y) w (clear_function_is_positive box e p positive within) clear
+clear_gives_corridor_lem w box e positive clear p within = each_onward (IsClearFunctionOn box e) (λ f. IsPositiveAt f p.x p.y) w
+    (clear_function_is_positive box e p positive within) clear
 
 -- a lesser slack asks for less
 clear_function_with_less : (box : Square) (e d : ℚ) → d ≤ℚ e → (f : FormalPoint) → IsClearFunctionOn box e f → IsClearFunctionOn box d f
@@ -61,7 +68,8 @@ clear_function_with_less box e d less f clear =
     let u = whole (1 + weight f) in
     onward
     (λ n above.
-    le₅ ℚ_ordered (λ a d e u v. a ⊞ d ⊠ u) (λ a d e u v. v) (λ a d e u v. times u d e ∷ le (a ⊞ e ⊠ u) v ∷ []) refl (drift n box f) d e u (central_value n box f) (whole_nonneg (1 + weight f), less, (above, tt)))
+    le₅ ℚ_ordered (λ a d e u v. a ⊞ d ⊠ u) (λ a d e u v. v) (λ a d e u v. times u d e ∷ le (a ⊞ e ⊠ u) v ∷ []) refl (drift n box f) d e u
+    (central_value n box f) (whole_nonneg (1 + weight f), less, (above, tt)))
     clear
 
 pub clear_with_less_lem : ClearWithLess
@@ -70,17 +78,22 @@ clear_with_less_lem w box e d less clear = each_onward (IsClearFunctionOn box e)
 -- ---- shut boxes
 
 pub some_of_shut : (w : List ℕ) (box : Square) (e : ℚ) → IsShut w box e → SomeFunction w (IsShutFunctionOn box e)
-some_of_shut w box e h = record { stable = h.stable; shift = h.shift; is_shift = h.is_shift; upper = h.upper; lower = h.lower; is_upper = h.is_upper; is_lower = h.is_lower; holds = h.shut }
+some_of_shut w box e h = record
+    { stable = h.stable; shift = h.shift; is_shift = h.is_shift; upper = h.upper; lower = h.lower; is_upper = h.is_upper; is_lower = h.is_lower; holds = h.shut }
 
 pub shut_of_some : (w : List ℕ) (box : Square) (e : ℚ) → SomeFunction w (IsShutFunctionOn box e) → IsShut w box e
-shut_of_some w box e h = record { stable = h.stable; shift = h.shift; is_shift = h.is_shift; upper = h.upper; lower = h.lower; is_upper = h.is_upper; is_lower = h.is_lower; shut = h.holds }
+shut_of_some w box e h = record
+    { stable = h.stable; shift = h.shift; is_shift = h.is_shift; upper = h.upper; lower = h.lower; is_upper = h.is_upper; is_lower = h.is_lower; shut = h.holds }
 
-shut_function_is_not_positive : (box : Square) (e : ℚ) (p : Point) → whole 0 <ℚ e → IsInBox box p → (f : FormalPoint) → IsPositiveAt f p.x p.y → IsShutFunctionOn box e f → ⊥
+shut_function_is_not_positive : (box : Square) (e : ℚ) (p : Point) → whole 0 <ℚ e → IsInBox box p → (f : FormalPoint) → IsPositiveAt f p.x p.y
+    → IsShutFunctionOn box e f → ⊥
 shut_function_is_not_positive box e p positive within f above shut =
     let below : FromSomeOn (λ n. value_at n f p.x p.y ≤ℚ neg_ℚ (margin e f)) =
-    onward_both (λ n near low. still_below (drift n box f) (margin e f) (central_value n box f) (value_at n f p.x p.y) near low) (within_drift box p f within) shut
+    onward_both (λ n near low. still_below (drift n box f) (margin e f) (central_value n box f) (value_at n f p.x p.y) near low)
+    (within_drift box p f within) shut
     in
-    let both_from : FromSomeOn (λ n. (above.0 ≤ℚ value_at n f p.x p.y) × (value_at n f p.x p.y ≤ℚ neg_ℚ (margin e f))) = onward_both (λ n h k. (h, k)) above.2 below in
+    let both_from : FromSomeOn (λ n. (above.0 ≤ℚ value_at n f p.x p.y) × (value_at n f p.x p.y ≤ℚ neg_ℚ (margin e f))) = onward_both
+    (λ n h k. (h, k)) above.2 below in
     let both = somewhere both_from in
     lt_not_le (whole 0) above.0 above.1
     (no_room above.0 (value_at both.0 f p.x p.y) (margin e f) both.1.0 both.1.1 (lt_le (whole 0) (margin e f) (margin_positive e f positive)))
@@ -103,7 +116,9 @@ no_drift : (n : ℕ) (e : ℚ) (f : FormalPoint) → threshold_of n (whole 0) e 
 no_drift n e f = ring₃ ℚ_ring (λ p r m. p ⊠ (r ⊠ num 0) ⊞ m) (λ p r m. m) refl (pi_sum n) (whole (reach f)) (margin e f)
 
 pub clear_at_point : (w : List ℕ) (x y e : ℚ) → EachFunction w (IsClearIn (point_ball x y) e) → IsClearAtPoint w x y e
-clear_at_point w x y e h = each_onward (IsClearIn (point_ball x y) e) (IsClearFunction x y e) w (λ f clear. onward (λ n above. subst (λ t. t ≤ℚ value_at n f x y) (no_drift n e f) above) clear) h
+clear_at_point w x y e h = each_onward (IsClearIn (point_ball x y) e) (IsClearFunction x y e) w
+    (λ f clear. onward (λ n above. subst (λ t. t ≤ℚ value_at n f x y) (no_drift n e f) above) clear) h
 
 pub clear_in_point : (w : List ℕ) (x y e : ℚ) → IsClearAtPoint w x y e → EachFunction w (IsClearIn (point_ball x y) e)
-clear_in_point w x y e h = each_onward (IsClearFunction x y e) (IsClearIn (point_ball x y) e) w (λ f clear. onward (λ n above. subst (λ t. t ≤ℚ value_at n f x y) (sym (no_drift n e f)) above) clear) h
+clear_in_point w x y e h = each_onward (IsClearFunction x y e) (IsClearIn (point_ball x y) e) w
+    (λ f clear. onward (λ n above. subst (λ t. t ≤ℚ value_at n f x y) (sym (no_drift n e f)) above) clear) h

@@ -1,5 +1,6 @@
 -- Thresholds in units: the drift of a function in a neighbourhood, rounded up, and its margin.
-use Rattle.std.proofs.Common.{◌≡◌, refl, sym, ap, ◌∙◌, subst, subst₂, ℕ, ◌+◌, ◌-◌, ◌*◌, ◌^◌, ◌<◌, ◌≤◌, ℤ, pos, negsuc, ◌+ℤ◌, ◌*ℤ◌, ◌≤ℤ◌, ◌<ℤ◌, unsigned_abs, FitsSigned, to_z, of_z, true, [], ◌∷◌, arith, mul-le-mul, mul-le-mul_right}
+use Rattle.std.proofs.Common.{◌≡◌, refl, sym, ap, ◌∙◌, subst, subst₂, ℕ, ◌+◌, ◌-◌, ◌*◌, ◌^◌, ◌<◌, ◌≤◌, ℤ, pos, negsuc, ◌+ℤ◌, ◌*ℤ◌, ◌≤ℤ◌, ◌<ℤ◌}
+use Rattle.std.proofs.Common.{unsigned_abs, FitsSigned, to_z, of_z, true, [], ◌∷◌, arith, mul-le-mul, mul-le-mul_right}
 use Rattle.std.proofs.Math.Pow.{pow_mono}
 use Rattle.std.proofs.lemmas.Int.{ints, to_z-of_z, fits_signed_from_abs}
 use Rattle.std.specs.Int.{w64, w128}
@@ -20,7 +21,7 @@ use Rattle.trig_meaning.proofs.FromSomeOnLaws.{onward}
 use Rattle.directed_fixed.specs.Rounding.{IsCeiling}
 use Rattle.directed_fixed.specs.Ends.{Encloses}
 use Rattle.directed_fixed.proofs.Rounding.{product_size, rounded_not_larger}
-use Rattle.sine_fixed.proofs.Enclosed.{pi_size}
+use Rattle.directed_fixed.proofs.PiSums.{pi_size}
 use Rattle.defining_functions.specs.Functions.{IsWithinFunctionLimits}
 use Rattle.gradient_bounds.specs.Clear.{slack}
 use Rattle.gradient_bounds.specs.Neighbourhood.{threshold_of}
@@ -61,7 +62,8 @@ rounded_below h r p D d positive ceiling =
     let near : (D *ℤ pos d) ÷ 1 ≤ℚ (product +ℤ pos d) ÷ 1 = int_le (D *ℤ pos d) (product +ℤ pos d) (weaker (D *ℤ pos d) (product +ℤ pos d) ceiling.near) in
     let parts : (product +ℤ pos d) ÷ 1 ≡ exact *ℚ whole d +ℚ whole d = int-add product (pos d) ∙ ap (λ t. t +ℚ whole d) (sym (product_over h r p d positive)) in
     let scaled : (D ÷ 1) *ℚ whole d ≤ℚ exact *ℚ whole d +ℚ whole d = subst₂ ◌≤ℚ◌ (int-mul D (pos d)) parts near in
-    cancel_le d positive (D ÷ 1) (exact +ℚ whole 1) (le₃ ℚ_ordered (λ D e d. D ⊠ d) (λ D e d. (e ⊞ num 1) ⊠ d) (λ D e d. le (D ⊠ d) (e ⊠ d ⊞ d) ∷ []) refl (D ÷ 1) exact (whole d) (scaled, tt))
+    cancel_le d positive (D ÷ 1) (exact +ℚ whole 1) (le₃ ℚ_ordered (λ D e d. D ⊠ d) (λ D e d. (e ⊞ num 1) ⊠ d) (λ D e d. le (D ⊠ d) (e ⊠ d ⊞ d) ∷
+    []) refl (D ÷ 1) exact (whole d) (scaled, tt))
   where
     weaker : (a b : ℤ) → a <ℤ b → a ≤ℤ b
     weaker a b h = omega (arith, ints)
@@ -75,8 +77,10 @@ pub record IsDrift (L H D : ℤ) (r w : ℕ) (p : ℤ) (d : ℕ) : Type 0 where
   pub one_unit : H ≡ L +ℤ pos 1
   pub ceiling : IsCeiling D (H *ℤ (pos r *ℤ p)) (pos d)
 
-pub drift_of : (L H D : ℤ) (r w : ℕ) (p den : ℤ) → pos 1 ≤ℤ den → pos 0 ≤ℤ p → p ≤ℤ pos 1 → r ≤ 260 * w → H ≡ L +ℤ pos 1 → IsCeiling D (H *ℤ (pos r *ℤ p)) den → IsDrift L H D r w p (unsigned_abs den)
-drift_of L H D r w p (pos d) positive low high slow unit ceiling = record { positive = omega (arith, ints); at_least = low; at_most = high; slow = slow; one_unit = unit; ceiling = ceiling }
+pub drift_of : (L H D : ℤ) (r w : ℕ) (p den : ℤ) → pos 1 ≤ℤ den → pos 0 ≤ℤ p → p ≤ℤ pos 1 → r ≤ 260 * w → H ≡ L +ℤ pos 1
+    → IsCeiling D (H *ℤ (pos r *ℤ p)) den → IsDrift L H D r w p (unsigned_abs den)
+drift_of L H D r w p (pos d) positive low high slow unit ceiling = record
+    { positive = omega (arith, ints); at_least = low; at_most = high; slow = slow; one_unit = unit; ceiling = ceiling }
 drift_of L H D r w p (negsuc d) positive low high slow unit ceiling = absurd positive.le
 
 -- reach times radius is at least 0, and at most 260 for each unit of weight
@@ -84,18 +88,21 @@ spread_between : (L H D : ℤ) (r w : ℕ) (p : ℤ) (d : ℕ) → IsDrift L H D
 spread_between L H D r w p d h =
     let radius = radius_between p d h.positive h.at_least h.at_most in (
       mul_nonneg (whole r) (p ÷ d) (whole_nonneg r) radius.0,
-      le₃ ℚ_ordered (λ r q m. r ⊠ q) (λ r q m. m) (λ r q m. times r q (num 1) ∷ le r m ∷ []) refl (whole r) (p ÷ d) (whole (260 * w)) (whole_nonneg r, radius.1, (whole_le r (260 * w) h.slow, tt)),
+      le₃ ℚ_ordered (λ r q m. r ⊠ q) (λ r q m. m) (λ r q m. times r q (num 1) ∷ le r m ∷ []) refl (whole r) (p ÷ d) (whole (260 * w))
+          (whole_nonneg r, radius.1, (whole_le r (260 * w) h.slow, tt)),
     )
 
 -- the exact drift is at most the rounded one ..
-drift_at_most : (bits : ℕ) (L H D : ℤ) (r w : ℕ) (p : ℤ) (d : ℕ) (s : ℚ) → IsDrift L H D r w p d → Encloses bits (record { lo = L; hi = H }) s → (s *ℚ (whole r *ℚ (p ÷ d))) *ℚ whole (2 ^ bits) ≤ℚ D ÷ 1
+drift_at_most : (bits : ℕ) (L H D : ℤ) (r w : ℕ) (p : ℤ) (d : ℕ) (s : ℚ) → IsDrift L H D r w p d → Encloses bits (record { lo = L; hi = H }) s
+    → (s *ℚ (whole r *ℚ (p ÷ d))) *ℚ whole (2 ^ bits) ≤ℚ D ÷ 1
 drift_at_most bits L H D r w p d s h pi =
     let t = whole r *ℚ (p ÷ d) in
     le₅ ℚ_ordered (λ s t u H D. (s ⊠ t) ⊠ u) (λ s t u H D. D) (λ s t u H D. times t (s ⊠ u) H ∷ le (H ⊠ t) D ∷ []) refl s t (whole (2 ^ bits)) (H ÷ 1) (D ÷ 1)
     ((spread_between L H D r w p d h).0, pi.high, (rounded_above H r p D d h.positive h.ceiling, tt))
 
 -- .. which is at most 260 units and one more above it, for each unit of weight
-drift_near : (bits : ℕ) (L H D : ℤ) (r w : ℕ) (p : ℤ) (d : ℕ) (s : ℚ) → IsDrift L H D r w p d → Encloses bits (record { lo = L; hi = H }) s → D ÷ 1 ≤ℚ (s *ℚ (whole r *ℚ (p ÷ d))) *ℚ whole (2 ^ bits) +ℚ whole (260 * w + 1)
+drift_near : (bits : ℕ) (L H D : ℤ) (r w : ℕ) (p : ℤ) (d : ℕ) (s : ℚ) → IsDrift L H D r w p d → Encloses bits (record { lo = L; hi = H }) s
+    → D ÷ 1 ≤ℚ (s *ℚ (whole r *ℚ (p ÷ d))) *ℚ whole (2 ^ bits) +ℚ whole (260 * w + 1)
 drift_near bits L H D r w p d s h pi =
     let t = whole r *ℚ (p ÷ d) in
     let spread = spread_between L H D r w p d h in
@@ -103,7 +110,8 @@ drift_near bits L H D r w p d s h pi =
     let rounded : D ÷ 1 ≤ℚ (L ÷ 1 +ℚ whole 1) *ℚ t +ℚ whole 1 = subst (λ z. D ÷ 1 ≤ℚ z *ℚ t +ℚ whole 1) upper (rounded_below H r p D d h.positive h.ceiling) in
     let room : whole (260 * w) +ℚ whole 1 ≤ℚ whole (260 * w + 1) = at_most_of_same ℚ_ordered (sym (int-add (pos (260 * w)) (pos 1))) in
     le_trans (D ÷ 1) ((s *ℚ t) *ℚ whole (2 ^ bits) +ℚ (whole (260 * w) +ℚ whole 1)) ((s *ℚ t) *ℚ whole (2 ^ bits) +ℚ whole (260 * w + 1))
-    (le₆ ℚ_ordered (λ s t u L D m. D) (λ s t u L D m. (s ⊠ t) ⊠ u ⊞ (m ⊞ num 1)) (λ s t u L D m. le D ((L ⊞ num 1) ⊠ t ⊞ num 1) ∷ times t L (s ⊠ u) ∷ le t m ∷ []) refl
+    (le₆ ℚ_ordered (λ s t u L D m. D) (λ s t u L D m. (s ⊠ t) ⊠ u ⊞ (m ⊞ num 1))
+    (λ s t u L D m. le D ((L ⊞ num 1) ⊠ t ⊞ num 1) ∷ times t L (s ⊠ u) ∷ le t m ∷ []) refl
     s t (whole (2 ^ bits)) (L ÷ 1) (D ÷ 1) (whole (260 * w)) (rounded, (spread.0, pi.low, (spread.1, tt))))
     (add_mono ((s *ℚ t) *ℚ whole (2 ^ bits)) (whole (260 * w) +ℚ whole 1) (whole (260 * w + 1)) room)
 
@@ -126,7 +134,15 @@ dividend_of H R p r w H_small R_is slow light low high =
     let factor_small : unsigned_abs (R *ℤ p) ≤ 2 ^ 23 = omega arith in
     let product : unsigned_abs (H *ℤ (R *ℤ p)) ≤ 2 ^ 62 * 2 ^ 23 = product_size H (R *ℤ p) (2 ^ 62) (2 ^ 23) H_small factor_small in
     let size : unsigned_abs (H *ℤ (R *ℤ p)) ≤ 2 ^ 90 = omega arith in
-    record { pi = fits_128 H (omega arith); reach = fits_128 R (omega arith); radius = fits_128 p (omega arith); factor = fits_128 (R *ℤ p) (omega arith); product = fits_128 (H *ℤ (R *ℤ p)) (omega arith); size = size }
+    record {
+      pi = fits_128 H (omega arith);
+      reach = fits_128 R (omega arith);
+      radius = fits_128 p (omega arith);
+      factor = fits_128 (R *ℤ p)
+          (omega arith);
+      product = fits_128 (H *ℤ (R *ℤ p)) (omega arith);
+      size = size;
+    }
 
 -- the reach as the machine converts it
 pub reach_kept : (z from : ℤ) (r w : ℕ) → z ≡ pos r → from ≡ to_z w64 (of_z w64 z) → r ≤ 260 * w → w ≤ 16384 → from ≡ pos r
@@ -135,10 +151,13 @@ reach_kept z from r w z_is from_is slow light =
     from_is ∙ ap (λ t. to_z w64 (of_z w64 t)) z_is ∙ to_z-of_z w64 (pos r) fits
 
 -- the same for the numbers of a scale
-pub dividend_at : (bits : ℕ) (L P H z from p : ℤ) (f : FormalPoint) → bits ≤ 60 → FromSomeOn (λ n. Encloses bits (record { lo = L; hi = P }) (pi_sum n)) → P ≡ L +ℤ pos 1 → H ≡ P → z ≡ pos (reach f) → from ≡ to_z w64 (of_z w64 z) → IsWithinFunctionLimits f → pos 0 ≤ℤ p → p ≤ℤ pos 1 → IsDividend H from p
+pub dividend_at : (bits : ℕ) (L P H z from p : ℤ) (f : FormalPoint) → bits ≤ 60
+    → FromSomeOn (λ n. Encloses bits (record { lo = L; hi = P }) (pi_sum n)) → P ≡ L +ℤ pos 1 → H ≡ P → z ≡ pos (reach f)
+    → from ≡ to_z w64 (of_z w64 z) → IsWithinFunctionLimits f → pos 0 ≤ℤ p → p ≤ℤ pos 1 → IsDividend H from p
 dividend_at bits L P H z from p f room pi unit H_is z_is from_is limits low high =
     let size : unsigned_abs H ≤ 2 ^ 62 = subst (λ t. unsigned_abs t ≤ 2 ^ 62) (sym H_is) (pi_size bits L P room pi unit).1 in
-    dividend_of H from p (reach f) (weight f) size (reach_kept z from (reach f) (weight f) z_is from_is limits.slow limits.light) limits.slow limits.light low high
+    dividend_of H from p (reach f) (weight f) size (reach_kept z from (reach f)
+    (weight f) z_is from_is limits.slow limits.light) limits.slow limits.light low high
 
 -- a drift and a margin, and their sum
 pub record IsSum (D M : ℤ) : Type 0 where
@@ -147,7 +166,8 @@ pub record IsSum (D M : ℤ) : Type 0 where
   pub sum : FitsSigned w128 (D +ℤ M)
   pub size : unsigned_abs (D +ℤ M) ≤ 2 ^ 100
 
-pub sum_fits : (H D M : ℤ) (bits low r w : ℕ) (p den : ℤ) → bits ≤ 60 → unsigned_abs H ≤ 2 ^ 62 → r ≤ 260 * w → w ≤ 16384 → pos 0 ≤ℤ p → p ≤ℤ pos 1 → pos 1 ≤ℤ den → IsCeiling D (H *ℤ (pos r *ℤ p)) den → M ≡ pos (2 ^ (bits - low) * (1 + w)) → IsSum D M
+pub sum_fits : (H D M : ℤ) (bits low r w : ℕ) (p den : ℤ) → bits ≤ 60 → unsigned_abs H ≤ 2 ^ 62 → r ≤ 260 * w → w ≤ 16384 → pos 0 ≤ℤ p → p ≤ℤ pos 1
+    → pos 1 ≤ℤ den → IsCeiling D (H *ℤ (pos r *ℤ p)) den → M ≡ pos (2 ^ (bits - low) * (1 + w)) → IsSum D M
 sum_fits H D M bits low r w p den room H_small slow light at_least at_most positive ceiling M_is =
     let dividend = (dividend_of H (pos r) p r w H_small refl slow light at_least at_most).size in
     let D_small : unsigned_abs D ≤ 2 ^ 90 = rounded_not_larger true D (H *ℤ (pos r *ℤ p)) den (2 ^ 90) positive ceiling dividend in
@@ -182,7 +202,8 @@ margin_units : (bits low w : ℕ) → low ≤ bits → slack low *ℚ whole (1 +
 margin_units bits low w h = slack_units bits low (whole (1 + w)) h ∙ sym (int-mul (pos (2 ^ (bits - low))) (pos (1 + w)))
 
 -- the drift and the margin together are enough ..
-pub threshold_enough : (bits low : ℕ) (L H D M : ℤ) (f : FormalPoint) (p : ℤ) (d : ℕ) → low ≤ bits → M ≡ pos (2 ^ (bits - low) * (1 + weight f)) → IsDrift L H D (reach f) (weight f) p d → FromSomeOn (λ n. Encloses bits (record { lo = L; hi = H }) (pi_sum n))
+pub threshold_enough : (bits low : ℕ) (L H D M : ℤ) (f : FormalPoint) (p : ℤ) (d : ℕ) → low ≤ bits → M ≡ pos (2 ^ (bits - low) * (1 + weight f))
+    → IsDrift L H D (reach f) (weight f) p d → FromSomeOn (λ n. Encloses bits (record { lo = L; hi = H }) (pi_sum n))
     → FromSomeOn (λ n. threshold_of n (p ÷ d) (slack low) f *ℚ whole (2 ^ bits) ≤ℚ (D +ℤ M) ÷ 1)
 threshold_enough bits low L H D M f p d room M_is h pi = onward at pi
   where
@@ -194,14 +215,18 @@ threshold_enough bits low L H D M f p d room M_is h pi = onward at pi
         let drift : a *ℚ u ≤ℚ D ÷ 1 = drift_at_most bits L H D (reach f) (weight f) p d (pi_sum n) h e in
         let margin : m *ℚ u ≤ℚ M ÷ 1 = at_most_of_same ℚ_ordered (margin_units bits low (weight f) room ∙ ap (λ z. z ÷ 1) (sym M_is)) in
         subst (λ t. (a +ℚ m) *ℚ u ≤ℚ t) (sym (int-add D M))
-        (le₅ ℚ_ordered (λ a m u D M. (a ⊞ m) ⊠ u) (λ a m u D M. D ⊞ M) (λ a m u D M. le (a ⊠ u) D ∷ le (m ⊠ u) M ∷ []) refl a m u (D ÷ 1) (M ÷ 1) (drift, (margin, tt)))
+        (le₅ ℚ_ordered (λ a m u D M. (a ⊞ m) ⊠ u) (λ a m u D M. D ⊞ M) (λ a m u D M. le (a ⊠ u) D ∷ le (m ⊠ u) M ∷ []) refl a m u (D ÷ 1) (M ÷ 1)
+        (drift, (margin, tt)))
 
 -- .. and so little that what the wider slack asks for exceeds them by the width
-pub threshold_little : (bits low high : ℕ) (L H D M : ℤ) (f : FormalPoint) (p : ℤ) (d : ℕ) → high + 12 ≤ low → low ≤ bits → M ≡ pos (2 ^ (bits - low) * (1 + weight f)) → IsDrift L H D (reach f) (weight f) p d
-    → FromSomeOn (λ n. Encloses bits (record { lo = L; hi = H }) (pi_sum n)) → FromSomeOn (λ n. (D +ℤ M +ℤ pos (256 * weight f)) ÷ 1 ≤ℚ threshold_of n (p ÷ d) (slack high) f *ℚ whole (2 ^ bits))
+pub threshold_little : (bits low high : ℕ) (L H D M : ℤ) (f : FormalPoint) (p : ℤ) (d : ℕ) → high + 12 ≤ low → low ≤ bits
+    → M ≡ pos (2 ^ (bits - low) * (1 + weight f)) → IsDrift L H D (reach f) (weight f) p d
+    → FromSomeOn (λ n. Encloses bits (record { lo = L; hi = H }) (pi_sum n))
+    → FromSomeOn (λ n. (D +ℤ M +ℤ pos (256 * weight f)) ÷ 1 ≤ℚ threshold_of n (p ÷ d) (slack high) f *ℚ whole (2 ^ bits))
 threshold_little bits low high L H D M f p d apart room M_is h pi = onward at pi
   where
-    at : (n : ℕ) → Encloses bits (record { lo = L; hi = H }) (pi_sum n) → (D +ℤ M +ℤ pos (256 * weight f)) ÷ 1 ≤ℚ threshold_of n (p ÷ d) (slack high) f *ℚ whole (2 ^ bits)
+    at : (n : ℕ) → Encloses bits (record { lo = L; hi = H }) (pi_sum n)
+        → (D +ℤ M +ℤ pos (256 * weight f)) ÷ 1 ≤ℚ threshold_of n (p ÷ d) (slack high) f *ℚ whole (2 ^ bits)
     at n e =
         let w = weight f in
         let u = whole (2 ^ bits) in
@@ -209,7 +234,8 @@ threshold_little bits low high L H D M f p d apart room M_is h pi = onward at pi
         let m = slack high *ℚ whole (1 + w) in
         let near : D ÷ 1 ≤ℚ a *ℚ u +ℚ whole (260 * w + 1) = drift_near bits L H D (reach f) w p d (pi_sum n) h e in
         let wide : whole (260 * w + 1) +ℚ (M ÷ 1 +ℚ whole (256 * w)) ≤ℚ m *ℚ u =
-        subst₂ ◌≤ℚ◌ (added (260 * w + 1) (2 ^ (bits - low) * (1 + w)) (256 * w) ∙ ap (λ z. whole (260 * w + 1) +ℚ (z ÷ 1 +ℚ whole (256 * w))) (sym M_is)) (sym (margin_units bits high w (omega arith)))
+        subst₂ ◌≤ℚ◌ (added (260 * w + 1) (2 ^ (bits - low) * (1 + w)) (256 * w)
+        ∙ ap (λ z. whole (260 * w + 1) +ℚ (z ÷ 1 +ℚ whole (256 * w))) (sym M_is)) (sym (margin_units bits high w (omega arith)))
         (whole_le (260 * w + 1 + 2 ^ (bits - low) * (1 + w) + 256 * w) (2 ^ (bits - high) * (1 + w)) (wide_slack_exceeds bits low high w apart room))
         in
         subst (λ t. t ≤ℚ (a +ℚ m) *ℚ u) (sym (int-add (D +ℤ M) (pos (256 * w)) ∙ ap (λ t. t +ℚ whole (256 * w)) (int-add D M)))
@@ -221,7 +247,8 @@ threshold_little bits low high L H D M f p d apart room M_is h pi = onward at pi
         sum_below : (D M v k a m u : ℚ) → D ≤ℚ a *ℚ u +ℚ k → k +ℚ (M +ℚ v) ≤ℚ m *ℚ u → D +ℚ M +ℚ v ≤ℚ (a +ℚ m) *ℚ u
         sum_below D M v k a m u near wide =
             moved ℚ_ordered (sym (add_assoc D M v)) (mul-add' a m u)
-            (le₅ ℚ_ordered (λ D s k x y. D ⊞ s) (λ D s k x y. x ⊞ y) (λ D s k x y. le D (x ⊞ k) ∷ le (k ⊞ s) y ∷ []) refl D (M +ℚ v) k (a *ℚ u) (m *ℚ u) (near, (wide, tt)))
+            (le₅ ℚ_ordered (λ D s k x y. D ⊞ s) (λ D s k x y. x ⊞ y) (λ D s k x y. le D (x ⊞ k) ∷ le (k ⊞ s) y ∷ []) refl D (M +ℚ v) k (a *ℚ u)
+            (m *ℚ u) (near, (wide, tt)))
           where
             mul-add' : (a m u : ℚ) → a *ℚ u +ℚ m *ℚ u ≡ (a +ℚ m) *ℚ u
             mul-add' = ring₃ ℚ_ring (λ a m u. a ⊠ u ⊞ m ⊠ u) (λ a m u. (a ⊞ m) ⊠ u) refl

@@ -1,5 +1,6 @@
 -- Margins: a slack above 0 gives a corridor at a point, and a margin in units.
-use Rattle.std.proofs.Common.{◌≡◌, refl, sym, ap, ◌∙◌, subst₂, ℕ, ◌+◌, ◌-◌, ◌*◌, ◌^◌, ◌≤◌, ℤ, pos, ◌+ℤ◌, ◌*ℤ◌, FitsSigned, to_z, of_z, [], ◌∷◌, arith, mul-le-mul}
+use Rattle.std.proofs.Common.{◌≡◌, refl, sym, ap, ◌∙◌, subst₂, ℕ, ◌+◌, ◌-◌, ◌*◌, ◌^◌, ◌≤◌, ℤ, pos, ◌+ℤ◌, ◌*ℤ◌, FitsSigned, to_z, of_z, [], ◌∷◌, arith}
+use Rattle.std.proofs.Common.{mul-le-mul}
 use Rattle.std.proofs.Math.Pow.{pow_mono}
 use Rattle.std.proofs.lemmas.Int.{to_z-of_z, fits_signed_from_abs}
 use Rattle.std.specs.Int.{w64, w128}
@@ -50,7 +51,8 @@ slack_units bits low u h =
     let U = whole (2 ^ (bits - low)) in
     let L = whole (2 ^ low) in
     let split : bits ≡ (bits - low) + low = omega arith in
-    let parts : whole (2 ^ bits) ≡ U *ℚ L = ap (λ b. whole (2 ^ b)) split ∙ ap whole (pow-add 2 (bits - low) low) ∙ int-mul (pos (2 ^ (bits - low))) (pos (2 ^ low)) in
+    let parts : whole (2 ^ bits) ≡ U *ℚ L = ap (λ b. whole (2 ^ b)) split ∙ ap whole (pow-add 2 (bits - low) low)
+    ∙ int-mul (pos (2 ^ (bits - low))) (pos (2 ^ low)) in
     ap (λ t. s *ℚ u *ℚ t) parts
     ∙ ring₄ ℚ_ring (λ s u U L. s ⊠ u ⊠ (U ⊠ L)) (λ s u U L. (s ⊠ L) ⊠ (U ⊠ u)) refl s u U L
     ∙ ap (λ t. t *ℚ (U *ℚ u)) (over-mul (pos 1) (2 ^ low) (pow_pos low))
@@ -81,7 +83,8 @@ margin_exactly bits low w room light =
       is = refl;
     }
 
-pub margin_at : (bits low w : ℕ) (u z from : ℤ) → bits ≤ 60 → w ≤ 16384 → u ≡ pos (2 ^ (bits - low)) → z ≡ pos w → from ≡ to_z w64 (of_z w64 z) → IsMargin bits low w u from
+pub margin_at : (bits low w : ℕ) (u z from : ℤ) → bits ≤ 60 → w ≤ 16384 → u ≡ pos (2 ^ (bits - low)) → z ≡ pos w → from ≡ to_z w64 (of_z w64 z)
+    → IsMargin bits low w u from
 margin_at bits low w u z from room light u_is z_is from_is =
     let fits : FitsSigned w64 (pos w) = fits_signed_from_abs w64 (pos w) (omega arith) in
     let whole_is : from ≡ pos w = from_is ∙ ap (λ t. to_z w64 (of_z w64 t)) z_is ∙ to_z-of_z w64 (pos w) fits in

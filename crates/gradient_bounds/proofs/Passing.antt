@@ -1,5 +1,6 @@
 -- What the ends of an interval for a value say of two slacks.
-use Rattle.std.proofs.Common.{◌≡◌, refl, sym, subst, ℕ, ◌*◌, ◌^◌, ℤ, pos, ◌+ℤ◌, ◌-ℤ◌, neg_ℤ, ◌≤ℤ◌, ◌≤◌, unsigned_abs, FitsSigned, Bool, true, false, T, [], ◌∷◌, List, arith}
+use Rattle.std.proofs.Common.{◌≡◌, refl, sym, subst, ℕ, ◌*◌, ◌^◌, ℤ, pos, ◌+ℤ◌, ◌-ℤ◌, neg_ℤ, ◌≤ℤ◌, ◌≤◌, unsigned_abs, FitsSigned, Bool, true, false}
+use Rattle.std.proofs.Common.{T, [], ◌∷◌, List, arith}
 use Rattle.std.proofs.lemmas.Int.{ints, fits_signed_from_abs}
 use Rattle.std.specs.Int.{w128}
 use Rattle.std.proofs.lemmas.Nat.{pow_pos}
@@ -39,7 +40,8 @@ module _ (bits : ℕ) (r : Ends) (v : ℚ) (e : Encloses bits r v) where
       let u = whole (2 ^ bits) in
       let upper : (t +ℤ pos w) ÷ 1 ≤ℚ r.hi ÷ 1 =
       le_trans ((t +ℤ pos w) ÷ 1) (v *ℚ u) (r.hi ÷ 1)
-      (le₄ ℚ_ordered (λ x a v u. x) (λ x a v u. v ⊠ u) (λ x a v u. le x (a ⊠ u) ∷ times u a v ∷ []) refl ((t +ℤ pos w) ÷ 1) a v u (h, (whole_nonneg (2 ^ bits), k, tt))) e.high
+      (le₄ ℚ_ordered (λ x a v u. x) (λ x a v u. v ⊠ u) (λ x a v u. le x (a ⊠ u) ∷ times u a v ∷ []) refl ((t +ℤ pos w) ÷ 1) a v u
+      (h, (whole_nonneg (2 ^ bits), k, tt))) e.high
       in
       rest t r.lo r.hi (pos w) (int_le_back (t +ℤ pos w) r.hi upper) narrow
     where
@@ -54,8 +56,10 @@ turned_encloses : (bits : ℕ) (r : Ends) (v : ℚ) → Encloses bits r v → En
 turned_encloses bits r v e =
     let u = whole (2 ^ bits) in
     record {
-      low = subst (λ t. t ≤ℚ neg_ℚ v *ℚ u) (sym (int-neg r.hi)) (le₃ ℚ_ordered (λ h v u. opp h) (λ h v u. opp v ⊠ u) (λ h v u. le (v ⊠ u) h ∷ []) refl (r.hi ÷ 1) v u (e.high, tt));
-      high = subst (λ t. neg_ℚ v *ℚ u ≤ℚ t) (sym (int-neg r.lo)) (le₃ ℚ_ordered (λ l v u. opp v ⊠ u) (λ l v u. opp l) (λ l v u. le l (v ⊠ u) ∷ []) refl (r.lo ÷ 1) v u (e.low, tt));
+      low = subst (λ t. t ≤ℚ neg_ℚ v *ℚ u) (sym (int-neg r.hi))
+          (le₃ ℚ_ordered (λ h v u. opp h) (λ h v u. opp v ⊠ u) (λ h v u. le (v ⊠ u) h ∷ []) refl (r.hi ÷ 1) v u (e.high, tt));
+      high = subst (λ t. neg_ℚ v *ℚ u ≤ℚ t) (sym (int-neg r.lo))
+          (le₃ ℚ_ordered (λ l v u. opp v ⊠ u) (λ l v u. opp l) (λ l v u. le l (v ⊠ u) ∷ []) refl (r.lo ÷ 1) v u (e.low, tt));
     }
 
 turned_narrow : (lo hi : ℤ) (w : ℕ) → hi ≤ℤ (lo +ℤ pos w) → neg_ℤ lo ≤ℤ (neg_ℤ hi +ℤ pos w)
@@ -70,7 +74,8 @@ pub record IsMeasured (bits low high : ℕ) (b : Ball) (f : FormalPoint) (t : �
 
 -- the interval is that of the terms
 pub measured : (bits low high : ℕ) (b : Ball) (f : FormalPoint) (t : ℤ) (r : Ends) (ts : List Term) → ts ≡ terms f
-    → FromSomeOn (λ n. threshold_of n b.radius (slack low) f *ℚ whole (2 ^ bits) ≤ℚ t ÷ 1) → FromSomeOn (λ n. (t +ℤ pos (256 * weight f)) ÷ 1 ≤ℚ threshold_of n b.radius (slack high) f *ℚ whole (2 ^ bits))
+    → FromSomeOn (λ n. threshold_of n b.radius (slack low) f *ℚ whole (2 ^ bits) ≤ℚ t ÷ 1)
+    → FromSomeOn (λ n. (t +ℤ pos (256 * weight f)) ÷ 1 ≤ℚ threshold_of n b.radius (slack high) f *ℚ whole (2 ^ bits))
     → FromSomeOn (λ n. Encloses bits r (value_of_terms n ts b.x b.y)) → r.hi ≤ℤ (r.lo +ℤ pos (256 * terms_weight ts)) → IsMeasured bits low high b f t r
 measured bits low high b f t r ts ts_is enough little encloses narrow =
     record {
@@ -92,7 +97,9 @@ module _ (bits low high : ℕ) (b : Ball) (f : FormalPoint) (t : ℤ) (r : Ends)
   clear_passes clear =
       is_true (is_at_most t r.lo) (seen (somewhere (onward_both (λ n e k. (e, k)) h.encloses (onward_both (λ n l k. (l, k)) h.little clear)))).le
     where
-      seen : (n : ℕ) × (Encloses bits r (value_at n f b.x b.y) × (((t +ℤ pos (256 * weight f)) ÷ 1 ≤ℚ threshold_of n b.radius (slack high) f *ℚ whole (2 ^ bits)) × (threshold_of n b.radius (slack high) f ≤ℚ value_at n f b.x b.y))) → t ≤ℤ r.lo
+      seen : (n : ℕ) × (Encloses bits r (value_at n f b.x b.y)
+          × (((t +ℤ pos (256 * weight f)) ÷ 1 ≤ℚ threshold_of n b.radius (slack high) f *ℚ whole (2 ^ bits))
+          × (threshold_of n b.radius (slack high) f ≤ℚ value_at n f b.x b.y))) → t ≤ℤ r.lo
       seen (n, (e, (l, k))) = reached_is_seen bits r (value_at n f b.x b.y) e (threshold_of n b.radius (slack high) f) t (256 * weight f) l h.narrow k
 
   -- a function is shut only with the narrower slack ..
@@ -101,7 +108,8 @@ module _ (bits low high : ℕ) (b : Ball) (f : FormalPoint) (t : ℤ) (r : Ends)
       let reach : t ≤ℤ neg_ℤ r.hi = below_zero r.hi t (le_z_yes (subst T (sym passed) tt)) in
       onward_both
       (λ n e k. turned_le (threshold_of n b.radius (slack low) f) (value_at n f b.x b.y)
-      (lower_end_reaches bits (turned r) (neg_ℚ (value_at n f b.x b.y)) (turned_encloses bits r (value_at n f b.x b.y) e) (threshold_of n b.radius (slack low) f) t k reach))
+      (lower_end_reaches bits (turned r) (neg_ℚ (value_at n f b.x b.y)) (turned_encloses bits r (value_at n f b.x b.y) e)
+      (threshold_of n b.radius (slack low) f) t k reach))
       h.encloses h.enough
     where
       below_zero : (hi t : ℤ) → hi ≤ℤ (pos 0 -ℤ t) → t ≤ℤ neg_ℤ hi
@@ -113,7 +121,8 @@ module _ (bits low high : ℕ) (b : Ball) (f : FormalPoint) (t : ℤ) (r : Ends)
   -- .. and where it is shut with the wider one
   pub shut_passes : IsShutIn b (slack high) f → IsTrue (is_at_most r.hi (pos 0 -ℤ t))
   shut_passes shut =
-      is_true (is_at_most r.hi (pos 0 -ℤ t)) (below_zero r.hi t (seen (somewhere (onward_both (λ n e k. (e, k)) h.encloses (onward_both (λ n l k. (l, k)) h.little shut))))).le
+      is_true (is_at_most r.hi (pos 0 -ℤ t)) (below_zero r.hi t
+      (seen (somewhere (onward_both (λ n e k. (e, k)) h.encloses (onward_both (λ n l k. (l, k)) h.little shut))))).le
     where
       turned_le : (a v : ℚ) → v ≤ℚ neg_ℚ a → a ≤ℚ neg_ℚ v
       turned_le a v k = le₂ ℚ_ordered (λ a v. a) (λ a v. opp v) (λ a v. le v (opp a) ∷ []) refl a v (k, tt)
@@ -121,11 +130,14 @@ module _ (bits low high : ℕ) (b : Ball) (f : FormalPoint) (t : ℤ) (r : Ends)
       below_zero : (hi t : ℤ) → t ≤ℤ neg_ℤ hi → hi ≤ℤ (pos 0 -ℤ t)
       below_zero hi t k = omega (arith, ints)
 
-      seen : (n : ℕ) × (Encloses bits r (value_at n f b.x b.y) × (((t +ℤ pos (256 * weight f)) ÷ 1 ≤ℚ threshold_of n b.radius (slack high) f *ℚ whole (2 ^ bits)) × (value_at n f b.x b.y ≤ℚ neg_ℚ (threshold_of n b.radius (slack high) f)))) → t ≤ℤ neg_ℤ r.hi
+      seen : (n : ℕ) × (Encloses bits r (value_at n f b.x b.y)
+          × (((t +ℤ pos (256 * weight f)) ÷ 1 ≤ℚ threshold_of n b.radius (slack high) f *ℚ whole (2 ^ bits))
+          × (value_at n f b.x b.y ≤ℚ neg_ℚ (threshold_of n b.radius (slack high) f)))) → t ≤ℤ neg_ℤ r.hi
       seen (n, (e, (l, k))) =
           let v = value_at n f b.x b.y in
           let a = threshold_of n b.radius (slack high) f in
-          reached_is_seen bits (turned r) (neg_ℚ v) (turned_encloses bits r v e) a t (256 * weight f) l (turned_narrow r.lo r.hi (256 * weight f) h.narrow) (turned_le a v k)
+          reached_is_seen bits (turned r) (neg_ℚ v) (turned_encloses bits r v e) a t (256 * weight f) l
+          (turned_narrow r.lo r.hi (256 * weight f) h.narrow) (turned_le a v k)
 
 -- the negative of a threshold fits its type
 pub negative_fits : (t : ℤ) → unsigned_abs t ≤ 2 ^ 100 → FitsSigned w128 (pos 0 -ℤ t)

@@ -15,7 +15,8 @@ IsUnstableFor w r = (r ≡ Err Unstable → IsStable w → ⊥) × (¬ (IsStable
 pub refused_by_memory : {T : Type 0} (w : List ℕ) (r : Result T PrepareFault) (e : PrepareFault) → IsStable w → r ≡ Err e → e ≡ Memory → IsUnstableFor w r
 refused_by_memory w r e stable is memory = (λ unstable _. cc, λ not_stable. absurd (not_stable stable))
 
-pub refused_by_functions : {T : Type 0} (w : List ℕ) (r : Result T PrepareFault) (e : PrepareFault) (fault : FunctionsFault) → IsStable w → r ≡ Err e → e ≡ fault_of fault → (fault ≡ functions_fault.NotTranslate → ⊥) → IsUnstableFor w r
+pub refused_by_functions : {T : Type 0} (w : List ℕ) (r : Result T PrepareFault) (e : PrepareFault) (fault : FunctionsFault) → IsStable w → r ≡ Err e
+    → e ≡ fault_of fault → (fault ≡ functions_fault.NotTranslate → ⊥) → IsUnstableFor w r
 refused_by_functions w r e functions_fault.NotTranslate stable is because not_so = absurd (not_so refl)
 refused_by_functions w r e functions_fault.Memory stable is because not_so = refused_by_memory w r e stable is because
 

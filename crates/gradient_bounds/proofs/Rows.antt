@@ -27,7 +27,8 @@ none_each : {X : Type 0} (P : X → Type 0) (xs : List X) → ¬ Any P xs → Al
 none_each P xs none k d below = λ here. none (k, slice_index_or xs k d, below, get_or_default xs k (slice_index_or xs k d) d below, here)
 
 -- what holds of each entry of a table holds of all
-pub all_of_table : {A : Type 0} (IsEntry : ℕ → A → Type 0) (P : A → Type 0) (n : ℕ) (xs : List A) → A → IsTable IsEntry n xs → ((i : ℕ) (x : A) → i < n → IsEntry i x → P x) → All P xs
+pub all_of_table : {A : Type 0} (IsEntry : ℕ → A → Type 0) (P : A → Type 0) (n : ℕ) (xs : List A) → A → IsTable IsEntry n xs
+    → ((i : ℕ) (x : A) → i < n → IsEntry i x → P x) → All P xs
 all_of_table {A} IsEntry P n xs d h f =
     All-from_get_or P xs d
     (λ i below.
@@ -45,7 +46,8 @@ row_has P w i row below h each =
     (λ j f inside is. subst P (sym (is.is each.shift each.is_shift)) (each.each (i + 1) (j + 1) (place_of w i below) (place_of w j inside)))
 
 -- the function at its place in a row
-function_at : (P : FormalPoint → Type 0) (w : List ℕ) (v : FormalPoint) (k l : ℕ) (row : List FormalPoint) → IsShift w v → IsPlace w l → IsRow w k row → All P row → P (defining_function v w k l)
+function_at : (P : FormalPoint → Type 0) (w : List ℕ) (v : FormalPoint) (k l : ℕ) (row : List FormalPoint) → IsShift w v → IsPlace w l
+    → IsRow w k row → All P row → P (defining_function v w k l)
 function_at P w v k l row shift place h all =
     let low = place.0 in
     let high = place.1 in
@@ -57,7 +59,8 @@ function_at P w v k l row shift place h all =
     subst (λ j. P (defining_function v w k j)) back (subst P is (All-get_or P row (l - 1) zero_point at all))
 
 -- what holds of all rows holds of each function of the word
-pub each_from_rows : (P : FormalPoint → Type 0) (w : List ℕ) (rows : List (Vec FormalPoint)) → Vec FormalPoint → IsPrepared w rows → All (λ row. All P row.items) rows → EachFunction w P
+pub each_from_rows : (P : FormalPoint → Type 0) (w : List ℕ) (rows : List (Vec FormalPoint)) → Vec FormalPoint → IsPrepared w rows
+    → All (λ row. All P row.items) rows → EachFunction w P
 each_from_rows P w rows d h all =
     let shift = has_shift w h.word h.stable in
     record { stable = h.stable; shift = shift.0; is_shift = shift.1; each = λ k l p q. at shift.0 k l shift.1 p q }
@@ -71,9 +74,11 @@ each_from_rows P w rows d h all =
         let here : k - 1 < length rows = omega (arith, h.rows.count, inside) in
         let row = slice_index_or rows (k - 1) d in
         subst (λ i. P (defining_function v w i l)) back
-        (function_at P w v (k - 1 + 1) l row.items shift q (h.rows.each (k - 1) d inside) (All-get_or (λ (r : Vec FormalPoint). All P r.items) rows (k - 1) d here all))
+        (function_at P w v (k - 1 + 1) l row.items shift q (h.rows.each (k - 1) d inside)
+        (All-get_or (λ (r : Vec FormalPoint). All P r.items) rows (k - 1) d here all))
 
-pub each_of_rows : (P : FormalPoint → Type 0) (w : List ℕ) (rows : List (Vec FormalPoint)) → IsPrepared w rows → All (λ row. All P row.items) rows → EachFunction w P
+pub each_of_rows : (P : FormalPoint → Type 0) (w : List ℕ) (rows : List (Vec FormalPoint)) → IsPrepared w rows → All (λ row. All P row.items) rows
+    → EachFunction w P
 each_of_rows P w [] h all =
     let six = h.word.even_length.at_least in
     let none = h.rows.count in
@@ -81,7 +86,8 @@ each_of_rows P w [] h all =
 each_of_rows P w (row ∷ rows) h all = each_from_rows P w (row ∷ rows) row h all
 
 -- and of a kept row
-pub kept_row_has : (P : FormalPoint → Type 0) (w : List ℕ) (rows : List (Vec FormalPoint)) (i : ℕ) (row : Vec FormalPoint) → IsPrepared w rows → i < length rows → row ≡ slice_index_or rows i row → EachFunction w P → All P row.items
+pub kept_row_has : (P : FormalPoint → Type 0) (w : List ℕ) (rows : List (Vec FormalPoint)) (i : ℕ) (row : Vec FormalPoint) → IsPrepared w rows
+    → i < length rows → row ≡ slice_index_or rows i row → EachFunction w P → All P row.items
 kept_row_has P w rows i row h below is each =
     let inside : i < length w = omega (arith, below, h.rows.count) in
     row_has P w i row.items inside (subst (λ (r : Vec FormalPoint). IsRow w (i + 1) r.items) (sym is) (h.rows.each i row inside)) each
@@ -103,12 +109,14 @@ pub record SomeFunction (w : List ℕ) (P : FormalPoint → Type 0) : Type 0 whe
 pub each_meets_some : (P Q : FormalPoint → Type 0) (w : List ℕ) → EachFunction w P → SomeFunction w Q → (f : FormalPoint) × P f × Q f
 each_meets_some P Q w each some = (
   defining_function some.shift w some.upper some.lower,
-  subst (λ v. P (defining_function v w some.upper some.lower)) (same_shift w each.shift some.shift each.is_shift some.is_shift) (each.each some.upper some.lower some.is_upper some.is_lower),
+  subst (λ v. P (defining_function v w some.upper some.lower)) (same_shift w each.shift some.shift each.is_shift some.is_shift)
+      (each.each some.upper some.lower some.is_upper some.is_lower),
   some.holds,
 )
 
 -- one in a kept row is one of the word's
-pub some_from_row : (P : FormalPoint → Type 0) (w : List ℕ) (rows : List (Vec FormalPoint)) (i : ℕ) (row : Vec FormalPoint) → IsPrepared w rows → i < length rows → row ≡ slice_index_or rows i row → Any P row.items → SomeFunction w P
+pub some_from_row : (P : FormalPoint → Type 0) (w : List ℕ) (rows : List (Vec FormalPoint)) (i : ℕ) (row : Vec FormalPoint) → IsPrepared w rows
+    → i < length rows → row ≡ slice_index_or rows i row → Any P row.items → SomeFunction w P
 some_from_row P w rows i row h below is any =
     let shift = has_shift w h.word h.stable in
     let inside : i < length w = omega (arith, below, h.rows.count) in
@@ -127,7 +135,8 @@ some_from_row P w rows i row h below is any =
     }
 
 -- where there is none in the rows, there is none
-pub none_in_rows : (P : FormalPoint → Type 0) (w : List ℕ) (rows : List (Vec FormalPoint)) → IsPrepared w rows → All (λ row. ¬ Any P row.items) rows → ¬ SomeFunction w P
+pub none_in_rows : (P : FormalPoint → Type 0) (w : List ℕ) (rows : List (Vec FormalPoint)) → IsPrepared w rows → All (λ row. ¬ Any P row.items) rows
+    → ¬ SomeFunction w P
 none_in_rows P w rows h none some =
     let each : EachFunction w (λ f. ¬ P f) = each_of_rows (λ f. ¬ P f) w rows h (λ i d below. none_each P (slice_index_or rows i d).items (none i d below)) in
     let both = each_meets_some (λ f. ¬ P f) P w each some in
@@ -135,7 +144,13 @@ none_in_rows P w rows h none some =
 
 -- a consequence for each
 pub each_onward : (P Q : FormalPoint → Type 0) (w : List ℕ) → ((f : FormalPoint) → P f → Q f) → EachFunction w P → EachFunction w Q
-each_onward P Q w f h = record { stable = h.stable; shift = h.shift; is_shift = h.is_shift; each = λ k l p q. f (defining_function h.shift w k l) (h.each k l p q) }
+each_onward P Q w f h = record {
+  stable = h.stable;
+  shift = h.shift;
+  is_shift = h.is_shift;
+  each = λ k l p q. f (defining_function h.shift w k l)
+      (h.each k l p q);
+}
 
 -- ---- what a new one keeps
 

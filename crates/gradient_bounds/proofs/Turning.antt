@@ -1,5 +1,6 @@
 -- Angles over one denominator, and turns of directions over it.
-use Rattle.std.proofs.Common.{◌≡◌, refl, sym, ap, ap₂, ◌∙◌, subst, subst₂, ℕ, ◌+◌, ◌*◌, ◌^◌, ◌<◌, ◌≤◌, ℤ, pos, negsuc, ◌+ℤ◌, ◌*ℤ◌, ◌≤ℤ◌, ◌<ℤ◌, unsigned_abs, FitsSigned, to_z, of_z, lit<, arith, mul-pos, mul-le-mul}
+use Rattle.std.proofs.Common.{◌≡◌, refl, sym, ap, ap₂, ◌∙◌, subst, subst₂, ℕ, ◌+◌, ◌*◌, ◌^◌, ◌<◌, ◌≤◌, ℤ, pos, negsuc, ◌+ℤ◌, ◌*ℤ◌, ◌≤ℤ◌, ◌<ℤ◌}
+use Rattle.std.proofs.Common.{unsigned_abs, FitsSigned, to_z, of_z, lit<, arith, mul-pos, mul-le-mul}
 use Rattle.std.specs.Int.{w32, w128}
 use Rattle.std.proofs.Math.Pow.{pow_mono}
 use Rattle.std.proofs.lemmas.Nat.{pow_pos}
@@ -46,7 +47,8 @@ product_nonneg X e h =
     let above : (pos 0 *ℤ pos e) ≤ℤ (X *ℤ pos e) = *ℤ_mono (pos 0) X e h in
     omega (arith, ints)
 
-common_angles : (X Y : ℤ) (d e : ℕ) → 0 < d → 0 < e → d ≤ 2 ^ 20 → e ≤ 2 ^ 20 → whole 0 <ℚ X ÷ d → whole 0 <ℚ Y ÷ e → X ÷ d +ℚ Y ÷ e <ℚ whole 1 → IsCommon (X ÷ d) (Y ÷ e) (common X Y (pos d) (pos e))
+common_angles : (X Y : ℤ) (d e : ℕ) → 0 < d → 0 < e → d ≤ 2 ^ 20 → e ≤ 2 ^ 20 → whole 0 <ℚ X ÷ d → whole 0 <ℚ Y ÷ e → X ÷ d +ℚ Y ÷ e <ℚ whole 1
+    → IsCommon (X ÷ d) (Y ÷ e) (common X Y (pos d) (pos e))
 common_angles X Y d e p q d_small e_small first second third =
     let positive : 0 < d * e = mul-pos p q in
     let small : d * e ≤ 2 ^ 20 * 2 ^ 20 = mul-le-mul d_small e_small in
@@ -81,7 +83,8 @@ common_angles X Y d e p q d_small e_small first second third =
     mul_comm m n = omega arith
 
 -- the same for numbers that are those
-common_at : (x_num y_num x_den y_den X Y : ℤ) (d e : ℕ) → x_num ≡ X → y_num ≡ Y → x_den ≡ pos d → y_den ≡ pos e → IsCommon (X ÷ d) (Y ÷ e) (common X Y (pos d) (pos e)) → IsCommon (X ÷ d) (Y ÷ e) (common x_num y_num x_den y_den)
+common_at : (x_num y_num x_den y_den X Y : ℤ) (d e : ℕ) → x_num ≡ X → y_num ≡ Y → x_den ≡ pos d → y_den ≡ pos e
+    → IsCommon (X ÷ d) (Y ÷ e) (common X Y (pos d) (pos e)) → IsCommon (X ÷ d) (Y ÷ e) (common x_num y_num x_den y_den)
 common_at x_num y_num x_den y_den X Y d e p q r s h = subst (IsCommon (X ÷ d) (Y ÷ e)) (sym (λ i. common (p i) (q i) (r i) (s i))) h
 
 -- a number as the machine keeps it
@@ -92,7 +95,8 @@ kept z = to_z w128 (of_z w128 z)
 abbrev pub kept_common : ℤ → ℤ → ℤ → ℤ → Angles
 kept_common X Y D E = record { first = kept (kept X *ℤ kept E); second = kept (kept Y *ℤ kept D); den = kept (kept D *ℤ kept E) }
 
-pub common_computed : (x y : Written) (X Y D E : ℤ) → X ≡ x.num → Y ≡ y.num → D ≡ pos x.den → E ≡ pos y.den → unsigned_abs X < 2 ^ 60 → unsigned_abs Y < 2 ^ 60 → 0 < x.den → 0 < y.den → x.den ≤ 2 ^ 20 → y.den ≤ 2 ^ 20 → IsTriangle x y → IsCommon (value x) (value y) (kept_common X Y D E)
+pub common_computed : (x y : Written) (X Y D E : ℤ) → X ≡ x.num → Y ≡ y.num → D ≡ pos x.den → E ≡ pos y.den → unsigned_abs X < 2 ^ 60
+    → unsigned_abs Y < 2 ^ 60 → 0 < x.den → 0 < y.den → x.den ≤ 2 ^ 20 → y.den ≤ 2 ^ 20 → IsTriangle x y → IsCommon (value x) (value y) (kept_common X Y D E)
 common_computed x y X Y D E X_is Y_is D_is E_is X_small Y_small positive positive' small small' triangle =
     let D_small : unsigned_abs D < 2 ^ 60 = omega (arith, ints) in
     let E_small : unsigned_abs E < 2 ^ 60 = omega (arith, ints) in
@@ -189,14 +193,16 @@ numerator_exactly dir a near angles =
       turn = simp to_z-of_z (numerator_turns dir.m dir.n a.first a.second a.den angles.positive);
     }
 
-pub numerator_computed : (dir : Dir) (a : Angles) (p q : ℤ) → IsNear 130 dir → IsAngles a → p ≡ to_z w32 (of_z w32 dir.m) → q ≡ to_z w32 (of_z w32 dir.n) → IsNumerator dir a (kept_numerator p q a)
+pub numerator_computed : (dir : Dir) (a : Angles) (p q : ℤ) → IsNear 130 dir → IsAngles a → p ≡ to_z w32 (of_z w32 dir.m)
+    → q ≡ to_z w32 (of_z w32 dir.n) → IsNumerator dir a (kept_numerator p q a)
 numerator_computed dir a p q near angles p_is q_is =
     let m : p ≡ dir.m = p_is ∙ to_z-of_z w32 dir.m (fits_32 dir.m near.m) in
     let n : q ≡ dir.n = q_is ∙ to_z-of_z w32 dir.n (fits_32 dir.n near.n) in
     subst₂ (λ s t. IsNumerator dir a (kept_numerator s t a)) (sym m) (sym n) (numerator_exactly dir a near angles)
 
 -- the turn at the machine's numbers
-pub turn_computed : (dir : Dir) (a : Angles) (z : ℤ) → IsAngles a → unsigned_abs z ≤ 2 ^ 52 → z ÷ unsigned_abs a.den ≡ turn_of dir (first_angle a) (second_angle a) → kept z ÷ unsigned_abs (kept a.den) ≡ turn_of dir (first_angle a) (second_angle a)
+pub turn_computed : (dir : Dir) (a : Angles) (z : ℤ) → IsAngles a → unsigned_abs z ≤ 2 ^ 52
+    → z ÷ unsigned_abs a.den ≡ turn_of dir (first_angle a) (second_angle a) → kept z ÷ unsigned_abs (kept a.den) ≡ turn_of dir (first_angle a) (second_angle a)
 turn_computed dir a z angles small is =
     let z_fits : FitsSigned w128 z = fits_128 z (omega arith) in
     let den_fits = angles_fit a angles in
@@ -205,7 +211,8 @@ turn_computed dir a z angles small is =
 -- ---- boxes
 
 -- the centre of a box, over a power of 2
-pub box_angles : (i j level : ℕ) → level ≤ 20 → i < 2 ^ level → j < 2 ^ level → IsAngles (record { first = pos (2 * i + 1); second = pos (2 * j + 1); den = pos (2 ^ (level + 1)) })
+pub box_angles : (i j level : ℕ) → level ≤ 20 → i < 2 ^ level → j < 2 ^ level
+    → IsAngles (record { first = pos (2 * i + 1); second = pos (2 * j + 1); den = pos (2 ^ (level + 1)) })
 box_angles i j level deep column row =
     let shallow : level + 1 ≤ 40 = omega arith in
     let small : 2 ^ (level + 1) ≤ 2 ^ 40 = pow_mono shallow in
@@ -221,7 +228,8 @@ box_angles i j level deep column row =
     }
 
 -- the same for numbers that are those, as the machine keeps them
-pub box_angles_kept : (i j level : ℕ) (x y d : ℤ) → level ≤ 20 → i < 2 ^ level → j < 2 ^ level → x ≡ pos (2 * i + 1) → y ≡ pos (2 * j + 1) → d ≡ pos (2 ^ (level + 1)) → IsAngles (record { first = kept x; second = kept y; den = kept d })
+pub box_angles_kept : (i j level : ℕ) (x y d : ℤ) → level ≤ 20 → i < 2 ^ level → j < 2 ^ level → x ≡ pos (2 * i + 1) → y ≡ pos (2 * j + 1)
+    → d ≡ pos (2 ^ (level + 1)) → IsAngles (record { first = kept x; second = kept y; den = kept d })
 box_angles_kept i j level x y d deep column row x_is y_is d_is =
     let angles = box_angles i j level deep column row in
     let sizes = angle_size (record { first = pos (2 * i + 1); second = pos (2 * j + 1); den = pos (2 ^ (level + 1)) }) angles in

@@ -55,7 +55,8 @@ corner_within box =
 
 -- the centre of a box within another is near the other's centre
 near_centres : (outer inner : Square) → ((p : Point) → IsInBox inner p → IsInBox outer p)
-    → (abs ((centre outer).x -ℚ (centre inner).x) ≤ℚ half_side outer -ℚ half_side inner) × (abs ((centre outer).y -ℚ (centre inner).y) ≤ℚ half_side outer -ℚ half_side inner)
+    → (abs ((centre outer).x -ℚ (centre inner).x) ≤ℚ half_side outer -ℚ half_side inner)
+    × (abs ((centre outer).y -ℚ (centre inner).y) ≤ℚ half_side outer -ℚ half_side inner)
 near_centres outer inner within =
     let corners = corner_within inner in
     let low = within (box_corner inner 0 0) corners.0 in

@@ -2,7 +2,7 @@
 
 use Rattle.std.specs.Prelude.{ℕ, ◌^◌, List, pos, ◌≤ℤ◌, unsigned_abs}
 use Rattle.rat_core.specs.Fraction.{ℚ, ◌÷◌}
-use Rattle.rat_core.proofs.Laws.{ℚ_ring, ℚ_image}
+use Rattle.rat_core.specs.Ring.{ℚ_ring, ℚ_image}
 use Rattle.exp_sums.specs.declared.terms.Term.{Term}
 use Rattle.exp_sums.specs.Weigh.{weigh_terms}
 use Rattle.trig_meaning.specs.Turn.{sine_of_turn}

@@ -36,7 +36,8 @@ IsClearAtPoint w x y e = EachFunction w (IsClearFunction x y e)
 
 -- ---- on a box
 
--- How far the value of a function may fall or rise from the centre of a box to any other point of it: pi·reach·half the side. A sine's slope is at most pi in each half turn.
+-- How far the value of a function may fall or rise from the centre of a box to any other point of it: pi·reach·half the side. A sine's slope is at
+-- most pi in each half turn.
 abbrev pub drift : ℕ → Square → FormalPoint → ℚ
 drift n box f = pi_sum n *ℚ (whole (reach f) *ℚ half_side box)
 

@@ -1,6 +1,8 @@
 -- The corridor of a word in a triangle.
--- A periodic path with the word runs along the shift of the word's unfolding, through every crossed edge. There is room for it exactly where every upper corner lies strictly to the left of every lower one, seen along the shift.
--- Source: Richard Evan Schwartz, Obtuse Triangular Billiards I: Near the (2, 3, 6) Triangle, Experimental Mathematics 15 (2006), and the usual account of unfolding.
+-- A periodic path with the word runs along the shift of the word's unfolding, through every crossed edge. There is room for it exactly where every
+-- upper corner lies strictly to the left of every lower one, seen along the shift.
+-- Source: Richard Evan Schwartz, Obtuse Triangular Billiards I: Near the (2, 3, 6) Triangle, Experimental Mathematics 15 (2006), and the usual
+-- account of unfolding.
 
 use Rattle.std.specs.Prelude.{ℕ, List}
 use Rattle.rat_core.specs.Fraction.{ℚ}

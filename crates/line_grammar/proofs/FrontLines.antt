@@ -30,7 +30,8 @@ not_early bytes line begins none =
     none (length line) 0 (omega (arith, ap length is, length-append line (newline ∷ begins.0))) at
 
 -- where they begin with a line that has no reason, they have none
-pub no_reason : (line_has : List ℕ → Reason → Type 0) (bytes line : List ℕ) → BeginsWith bytes line → ((r : Reason) → ¬ (line_has line r)) → (r : Reason) → ¬ (HaveReason line_has bytes r)
+pub no_reason : (line_has : List ℕ → Reason → Type 0) (bytes line : List ℕ) → BeginsWith bytes line → ((r : Reason) → ¬ (line_has line r))
+    → (r : Reason) → ¬ (HaveReason line_has bytes r)
 no_reason line_has bytes line begins lacks TooLong has = not_too_long bytes line begins has
 no_reason line_has bytes line begins lacks Ends has = not_early bytes line begins has
 no_reason line_has bytes line begins lacks r has = lacks r (subst (λ (l : List ℕ). line_has l r) (line_is_one bytes has.0 line has.1 begins) has.2)

@@ -240,7 +240,8 @@ turns_never_from {V} is_due part_after Sure rest one never before (v ∷ vs) (s 
     let there = (part_after before).lines_of s in
     let more = lines_in_turn part_after (before ++ v ∷ []) vs in
     let more' = lines_in_turn part_after (before ++ s ∷ []) said in
-    let both = one before v s (text_of more ++ rest) (text_of more' ++ bytes) p.1 q.1 (sym (text_of-after here more rest) ∙ same ∙ text_of-after there more' bytes) in
+    let both = one before v s (text_of more ++ rest) (text_of more' ++ bytes) p.1 q.1
+    (sym (text_of-after here more rest) ∙ same ∙ text_of-after there more' bytes) in
     let Never : V → Type 0 = λ u. AreSaid is_due part_after (before ++ u ∷ []) said → is_due ((before ++ u ∷ []) ++ said) ≡ true
     → text_of more ++ rest ≡ text_of (lines_in_turn part_after (before ++ u ∷ []) said) ++ bytes
     → ¬ (IsFirstOffence (part_after ((before ++ u ∷ []) ++ said)).grammar bytes n r) in
@@ -255,7 +256,8 @@ pub turns_never : {V : Type 0} (is_due : List V → Bool) (part_after : List V �
     → NeverOffends (in_turn is_due part_after) (AreSure Sure []) rest
 turns_never is_due part_after Sure rest one never vs line r says sure o =
     let there = in_a_turn is_due part_after (text_of (lines_in_turn part_after [] vs) ++ rest) line r o in
-    turns_never_from is_due part_after Sure rest one never [] vs there.said there.rest there.number r says.0 sure says.1 there.are_said there.due there.text there.offence
+    turns_never_from is_due part_after Sure rest one never
+    [] vs there.said there.rest there.number r says.0 sure says.1 there.are_said there.due there.text there.offence
 
 turn_offences_from : {V : Type 0} (is_due : List V → Bool) (part_after : List V → Part V) → ((l : List V) → ValueIsOne (part_after l))
     → ((l : List V) (x : List ℕ) → NeverOffends (part_after l) Any x) → ((l : List V) → OffenceIsOne (part_after l).grammar)

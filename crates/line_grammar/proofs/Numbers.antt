@@ -1,5 +1,6 @@
 -- The numbers of a line: their digits hold no newline and no space, and tell the number.
-use Rattle.std.proofs.Common.{◌≡◌, ◌≢◌, inl, inr, ℕ, zero, suc, ◌+◌, ◌/◌, ◌%◌, ◌<◌, ◌≤◌, ◌^◌, Bool, true, false, cond, List, [], ◌∷◌, length, decimal, All, ◌==◌, nat_lt, sym, ap, ◌∙◌, arith}
+use Rattle.std.proofs.Common.{◌≡◌, ◌≢◌, inl, inr, ℕ, zero, suc, ◌+◌, ◌/◌, ◌%◌, ◌<◌, ◌≤◌, ◌^◌, Bool, true, false, cond, List, [], ◌∷◌, length, decimal}
+use Rattle.std.proofs.Common.{All, ◌==◌, nat_lt, sym, ap, ◌∙◌, arith}
 use Rattle.std.proofs.lemmas.Bool.{cases_lt, ne_eqb}
 use Rattle.std.proofs.lemmas.Fmt.{decimal_is_IsNumeral_wide, length-decimal-le}
 use Rattle.std.proofs.lemmas.List.Elements.{All-nil, All-cons}
@@ -24,7 +25,8 @@ digits_without byte zero n behind low none = none
 digits_without byte (suc k) n behind low none =
     let glyph = digit_glyph false (n % 10) in
     let more = All-cons (λ b. b ≢ byte) glyph behind (glyph_is_not byte (n % 10) low) none in
-    chosen (All (λ b. b ≢ byte)) (n / 10 == 0) (glyph ∷ behind) (digits_onto k 10 false (n / 10) (glyph ∷ behind)) more (digits_without byte k (n / 10) (glyph ∷ behind) low more)
+    chosen (All (λ b. b ≢ byte)) (n / 10 == 0) (glyph ∷ behind) (digits_onto k 10 false (n / 10) (glyph ∷ behind)) more
+    (digits_without byte k (n / 10) (glyph ∷ behind) low more)
 
 -- a byte below the digits stands in no number
 pub decimal_without : (byte n : ℕ) → byte < 48 → All (λ b. b ≢ byte) (decimal n)
@@ -45,7 +47,8 @@ digits_fill (suc k) n behind many =
     let glyph = digit_glyph false (n % 10) in
     let rest : 10 ^ k ≤ n / 10 = omega (arith, many, pow-suc 10 k) in
     let some : n / 10 ≡ 0 → ⊥ = λ none. omega (arith, none, rest, one-le-pow k 10 (omega arith)) in
-    ap (λ b. length (cond b (glyph ∷ behind) (digits_onto (suc k) 10 false (n / 10) (glyph ∷ behind)))) (ne_eqb (n / 10) 0 some) ∙ digits_fill k (n / 10) (glyph ∷ behind) rest ∙ omega arith
+    ap (λ b. length (cond b (glyph ∷ behind) (digits_onto (suc k) 10 false (n / 10) (glyph ∷ behind)))) (ne_eqb (n / 10) 0 some)
+    ∙ digits_fill k (n / 10) (glyph ∷ behind) rest ∙ omega arith
 
 decimal-fill : (n : ℕ) → 10 ^ 64 ≤ n → length (decimal n) ≡ 64
 unfolding digits

@@ -145,7 +145,8 @@ takes_turn is_due part_after values v old mid new a b c so_far due one =
     let same = sym (lines_more part_after [] values v) in
     record {
       says = said_more is_due part_after [] values v so_far.says due one.says;
-      taken = takes_as (lines ++ more) (lines_in_turn part_after [] (values ++ v ∷ [])) old new a c same (takes_more lines more old mid new a b c so_far.taken one.taken);
+      taken = takes_as (lines ++ more) (lines_in_turn part_after [] (values ++ v ∷ [])) old new a c same
+          (takes_more lines more old mid new a b c so_far.taken one.taken);
       ahead = subst (λ (ls : List (List ℕ)). ReadsAhead ls old a c) same (ahead_more lines more old mid a b c so_far.taken so_far.ahead one.ahead);
     }
 

@@ -44,7 +44,17 @@ held_after held held' more line (Some xs) None within read takes = absurd read
 held_after held held' more line (Some xs) (Some ys) within read takes =
     let all : length (held ++ xs) ≡ length (line ++ newline ∷ (held' ++ ys)) = ap length takes.1 in
     let fits : length held' ≤ 4096 =
-    omega (arith, within, all, ap length read, length-append held xs, length-append more ys, length-append line (newline ∷ (held' ++ ys)), length-append held' ys) in
+    omega (
+      arith,
+      within,
+      all,
+      ap length read,
+      length-append held xs,
+      length-append more ys,
+      length-append line
+          (newline ∷ (held' ++ ys)),
+      length-append held' ys,
+    ) in
     (held', fits, takes.1 ∙ sym (text_of_one line (held' ++ ys)) ∙ sym (append_assoc (text_of (line ∷ [])) held' ys))
 
 ends_after_line : (old new : Reader) (left left' : Option (List ℕ)) (line : List ℕ) → old.is_done ≡ false → ReadsOneBuffer old left left'
@@ -68,7 +78,8 @@ takes_one None after line takes = tt
 takes_one (Some bytes) None line takes = absurd takes
 takes_one (Some bytes) (Some rest) line takes = takes.1 ∙ sym (text_of_one line rest)
 
-line_taken : (old new : Reader) (left left' : Option (List ℕ)) (line : List ℕ) → HandsOut old new left left' (Text line) → TakesLines (line ∷ []) old new left left'
+line_taken : (old new : Reader) (left left' : Option (List ℕ)) (line : List ℕ) → HandsOut old new left left' (Text line)
+    → TakesLines (line ∷ []) old new left left'
 line_taken old new left left' line hands = record {
   each = all_one IsShortLine line hands.form;
   bytes = takes_one (bytes_before old left) (bytes_before new left') line hands.bytes;
@@ -209,7 +220,8 @@ end_refused has lacks old new left left' number here reading ahead hands =
     (stops_here old new left left' End reading ahead hands)
 
 -- the input ends at or in the due line
-pub ends_refused : (has lacks : List ℕ → Reason → Type 0) (old new : Reader) (left left' : Option (List ℕ)) (found : Line) (number : ℕ) → number ≡ old.number + 1
+pub ends_refused : (has lacks : List ℕ → Reason → Type 0) (old new : Reader) (left left' : Option (List ℕ)) (found : Line) (number : ℕ)
+    → number ≡ old.number + 1
     → old.is_done ≡ false → ReadsOneBuffer old left left' → HandsOut old new left left' (next_of found) → (found ≡ line.CutShort) ⊎ (found ≡ line.End)
     → RefusesFirst (one_line has lacks) old new left left' (record { line = number; reason = reason.Ends })
 ends_refused has lacks old new left left' found number here reading ahead hands (inl cut) =

@@ -1,5 +1,6 @@
 -- A line with one space has two fields.
-use Rattle.std.proofs.Common.{◌≡◌, ◌≢◌, ℕ, suc, ◌+◌, ◌-◌, ◌<◌, List, [], ◌∷◌, ◌++◌, length, take, drop, get_or, Some, None, ◌==◌, refl, sym, ap, ◌∙◌, subst, arith, take-append-drop, drop-cons, length-take, length-drop, add-one}
+use Rattle.std.proofs.Common.{◌≡◌, ◌≢◌, ℕ, suc, ◌+◌, ◌-◌, ◌<◌, List, [], ◌∷◌, ◌++◌, length, take, drop, get_or, Some, None, ◌==◌, refl, sym, ap, ◌∙◌}
+use Rattle.std.proofs.Common.{subst, arith, take-append-drop, drop-cons, length-take, length-drop, add-one}
 use Rattle.std.proofs.lemmas.Bool.{eqb-true}
 use Rattle.std.proofs.lemmas.List.{get_or-take, take_all}
 use Rattle.std.proofs.lemmas.List.Elements.{All-tail}
@@ -30,7 +31,8 @@ parts bytes len is =
     }
 
 -- a line has its two fields in one way
-pub fields_are_one : (line first second first' second' : List ℕ) → IsTwoFields line first second → IsTwoFields line first' second' → (first ≡ first') × (second ≡ second')
+pub fields_are_one : (line first second first' second' : List ℕ) → IsTwoFields line first second → IsTwoFields line first' second' → (first ≡ first')
+    × (second ≡ second')
 fields_are_one line first second first' second' p q = parted space first first' second second' p.first_field q.first_field (sym p.is ∙ q.is)
 
 -- without a space there is one field
@@ -47,13 +49,17 @@ one_field line is first second fields =
 rest_is : (n : ℕ) (line : List ℕ) → take (length line - n) (drop n line) ≡ drop n line
 rest_is n line = take_all (length line - n) (drop n line) (omega (arith, length-drop n line))
 
-pub two_found : (line : List ℕ) (at : ℕ) → position (λ byte. byte == space) line ≡ Some at → position (λ byte. byte == space) (take (length line - (at + 1)) (drop (at + 1) line)) ≡ None → IsTwoFields line (take at line) (take (length line - (at + 1)) (drop (at + 1) line))
+pub two_found : (line : List ℕ) (at : ℕ) → position (λ byte. byte == space) line ≡ Some at
+    → position (λ byte. byte == space) (take (length line - (at + 1)) (drop (at + 1) line)) ≡ None
+    → IsTwoFields line (take at line) (take (length line - (at + 1)) (drop (at + 1) line))
 two_found line at is none =
     let p = parts line at is in
     rw rest_is (record { is = p.split; first_field = p.first; second_field = no_place space (drop (at + 1) line) (rw rest_is at none) })
 
 -- with a second space there are more
-pub more_fields : (line : List ℕ) (at more : ℕ) → position (λ byte. byte == space) line ≡ Some at → position (λ byte. byte == space) (take (length line - (at + 1)) (drop (at + 1) line)) ≡ Some more → (first second : List ℕ) → ¬ IsTwoFields line first second
+pub more_fields : (line : List ℕ) (at more : ℕ) → position (λ byte. byte == space) line ≡ Some at
+    → position (λ byte. byte == space) (take (length line - (at + 1)) (drop (at + 1) line)) ≡ Some more → (first second : List ℕ)
+    → ¬ IsTwoFields line first second
 more_fields line at more is again first second fields =
     let p = parts line at is in
     let same = parted space (take at line) first (drop (at + 1) line) second p.first fields.first_field (sym p.split ∙ fields.is) in

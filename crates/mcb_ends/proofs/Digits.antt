@@ -10,7 +10,8 @@ digits_fit n rest text small smaller is =
     omega (arith, size, decimal_nonempty rest smaller, ap length is, length-append (decimal rest) text)
 
 -- one digit more, before the others
-pub next_digit : (n rest : ℕ) (text : List ℕ) → 10 ≤ rest → rest < 2 ^ 64 → decimal n ≡ decimal rest ++ text → decimal n ≡ decimal (rest / 10) ++ (48 + rest % 10) ∷ text
+pub next_digit : (n rest : ℕ) (text : List ℕ) → 10 ≤ rest → rest < 2 ^ 64 → decimal n ≡ decimal rest ++ text
+    → decimal n ≡ decimal (rest / 10) ++ (48 + rest % 10) ∷ text
 next_digit n rest text more small is =
     is ∙ ap (λ (digits : List ℕ). digits ++ text) (decimal_step rest more small) ∙ append_assoc (decimal (rest / 10)) ((48 + rest % 10) ∷ []) text
 

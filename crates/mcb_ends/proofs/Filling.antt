@@ -9,7 +9,9 @@ use Rattle.mcb_ends.specs.Advance.{Fills}
 use Rattle.mcb_ends.proofs.Ranges.{take-copy_within}
 
 -- the held bytes were copied to the front, and n bytes were read behind them
-pub Fills-read : (held bytes copied filled : List ℕ) (from to n : ℕ) (left left' : Option (List ℕ)) → slice_range bytes from to ≡ held → from ≤ to → to ≤ length bytes → copied ≡ copy_within bytes from to 0 → take (to - from) filled ≡ take (to - from) copied → to - from + n ≤ length filled → Consumes left left' (take n (drop (to - from) filled)) → (n ≡ 0 → IsAtEnd left') → Fills held (slice_range filled 0 (to - from + n)) left left' n
+pub Fills-read : (held bytes copied filled : List ℕ) (from to n : ℕ) (left left' : Option (List ℕ)) → slice_range bytes from to ≡ held → from ≤ to
+    → to ≤ length bytes → copied ≡ copy_within bytes from to 0 → take (to - from) filled ≡ take (to - from) copied → to - from + n ≤ length filled
+    → Consumes left left' (take n (drop (to - from) filled)) → (n ≡ 0 → IsAtEnd left') → Fills held (slice_range filled 0 (to - from + n)) left left' n
 Fills-read held bytes copied filled from to n left left' is order within copy front fits taken end =
     let len = to - from in
     let more = take n (drop len filled) in

@@ -1,6 +1,7 @@
 pub mod Sought
 pub mod Digits
 pub mod Filling
+pub mod Gathering
 pub mod Handed
 pub mod Newlines
 pub mod OneNext

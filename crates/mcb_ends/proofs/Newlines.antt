@@ -1,5 +1,6 @@
 -- Where the first newline stands among the first 81 bytes.
-use Rattle.std.proofs.Common.{◌≡◌, inl, inr, ℕ, suc, ◌+◌, ◌<◌, ◌≤◌, List, ◌∷◌, ◌++◌, length, take, drop, get_or, Some, None, ◌==◌, sym, ap, ◌∙◌, arith, take-append-drop, drop-cons, length-take, add-one, subst, Contains}
+use Rattle.std.proofs.Common.{◌≡◌, inl, inr, ℕ, suc, ◌+◌, ◌<◌, ◌≤◌, List, ◌∷◌, ◌++◌, length, take, drop, get_or, Some, None, ◌==◌, sym, ap, ◌∙◌}
+use Rattle.std.proofs.Common.{arith, take-append-drop, drop-cons, length-take, add-one, subst, Contains}
 use Rattle.std.proofs.lemmas.Bool.{eqb-true}
 use Rattle.std.proofs.lemmas.List.{get_or-take}
 use Rattle.std.proofs.lemmas.List.Quantifiers.{position-Some}
@@ -37,13 +38,16 @@ place_stands bytes len is =
     }
 
 -- the place that was found among the bytes that were shown
-place_of : (bytes shown : List ℕ) (found place : Option ℕ) → shown ≡ bytes → found ≡ position (λ byte. byte == newline) (take 81 shown) → found ≡ place → position (λ byte. byte == newline) (take 81 bytes) ≡ place
+place_of : (bytes shown : List ℕ) (found place : Option ℕ) → shown ≡ bytes → found ≡ position (λ byte. byte == newline) (take 81 shown)
+    → found ≡ place → position (λ byte. byte == newline) (take 81 bytes) ≡ place
 place_of bytes shown found place same is at = ap (λ (xs : List ℕ). position (λ (byte : ℕ). byte == newline) (take 81 xs)) (sym same) ∙ sym is ∙ at
 
-pub one_found : (bytes shown : List ℕ) (found : Option ℕ) (len : ℕ) → shown ≡ bytes → found ≡ position (λ byte. byte == newline) (take 81 shown) → found ≡ Some len → Stands bytes len
+pub one_found : (bytes shown : List ℕ) (found : Option ℕ) (len : ℕ) → shown ≡ bytes → found ≡ position (λ byte. byte == newline) (take 81 shown)
+    → found ≡ Some len → Stands bytes len
 one_found bytes shown found len same is at = place_stands bytes len (place_of bytes shown found (Some len) same is at)
 
-pub none_found : (bytes shown : List ℕ) (found : Option ℕ) → shown ≡ bytes → found ≡ position (λ byte. byte == newline) (take 81 shown) → found ≡ None → HasNoNewline (take 81 bytes)
+pub none_found : (bytes shown : List ℕ) (found : Option ℕ) → shown ≡ bytes → found ≡ position (λ byte. byte == newline) (take 81 shown)
+    → found ≡ None → HasNoNewline (take 81 bytes)
 none_found bytes shown found same is at = no_place newline (take 81 bytes) (place_of bytes shown found None same is at)
 
 -- no newline among the first 81 bytes and at most 80 of them: what stands next is not in hand

@@ -1,5 +1,6 @@
 -- Exactly one line or end stands next in given bytes.
-use Rattle.std.proofs.Common.{◌≡◌, ◌⊎◌, inl, inr, ℕ, ◌+◌, ◌<◌, ◌≤◌, List, [], ◌∷◌, ◌++◌, length, take, drop, get_or, Some, None, ◌==◌, ◌≢◌, refl, sym, ap, ◌∙◌, subst, arith, length-append, length-take}
+use Rattle.std.proofs.Common.{◌≡◌, ◌⊎◌, inl, inr, ℕ, ◌+◌, ◌<◌, ◌≤◌, List, [], ◌∷◌, ◌++◌, length, take, drop, get_or, Some, None, ◌==◌, ◌≢◌, refl, sym}
+use Rattle.std.proofs.Common.{ap, ◌∙◌, subst, arith, length-append, length-take}
 use Rattle.std.proofs.Math.Seq.{get_or-append_seam}
 use Rattle.std.proofs.lemmas.Bool.{cases_lt}
 use Rattle.std.proofs.lemmas.List.{get_or-take, take_all}
@@ -12,7 +13,8 @@ use Rattle.mcb_ends.proofs.Newlines.{one_found, none_found}
 -- a line that ends within the first bytes has its newline among them
 newline_within : (bytes line rest : List ℕ) → bytes ≡ line ++ newline ∷ rest → length line < 81 → HasNoNewline (take 81 bytes) → ⊥
 newline_within bytes line rest is short none =
-    let at : get_or (take 81 bytes) (length line) 0 ≡ newline = get_or-take 81 bytes (length line) 0 short ∙ ap (λ (xs : List ℕ). get_or xs (length line) 0) is ∙ get_or-append_seam line newline rest 0 in
+    let at : get_or (take 81 bytes) (length line) 0 ≡ newline = get_or-take 81 bytes (length line) 0 short
+    ∙ ap (λ (xs : List ℕ). get_or xs (length line) 0) is ∙ get_or-append_seam line newline rest 0 in
     none (length line) 0 (omega (arith, short, length-take 81 bytes, ap length is, length-append line (newline ∷ rest))) at
 
 -- two lines with no newline, each with a newline behind it
@@ -63,14 +65,16 @@ IsNext-unique bytes End CutShort rest rest' p q = absurd (omega (arith, q.0, ap 
 IsNext-unique bytes End End rest rest' p q = (refl, p.1 ∙ sym q.1)
 
 -- without a newline among the first 81 bytes the length decides
-end_exists : (bytes : List ℕ) → HasNoNewline (take 81 bytes) → (80 < length bytes) ⊎ (length bytes ≤ 80) → (next : Next) × (rest : List ℕ) × IsNext bytes next rest
+end_exists : (bytes : List ℕ) → HasNoNewline (take 81 bytes) → (80 < length bytes) ⊎ (length bytes ≤ 80) → (next : Next) × (rest : List ℕ)
+    × IsNext bytes next rest
 end_exists bytes none (inl long) = (TooLong, [], (long, none, refl))
 end_exists [] none (inr short) = (End, [], (refl, refl))
 end_exists (byte ∷ bytes) none (inr short) =
     let line : IsShortLine (byte ∷ bytes) = record { one = subst HasNoNewline (take_all 81 (byte ∷ bytes) (omega (arith, short))) none; short = short } in
     (CutShort, [], (omega arith, line, refl))
 
-found_exists : (bytes : List ℕ) (place : Option ℕ) → place ≡ position (λ byte. byte == newline) (take 81 bytes) → (next : Next) × (rest : List ℕ) × IsNext bytes next rest
+found_exists : (bytes : List ℕ) (place : Option ℕ) → place ≡ position (λ byte. byte == newline) (take 81 bytes) → (next : Next) × (rest : List ℕ)
+    × IsNext bytes next rest
 found_exists bytes None is = end_exists bytes (none_found bytes bytes None refl is refl) (cases_lt 80 (length bytes))
 found_exists bytes (Some len) is =
     let stands = one_found bytes bytes (Some len) len refl is refl in

@@ -1,5 +1,6 @@
 -- What a reader of lines has before it while it reads.
-use Rattle.std.proofs.Common.{◌≡◌, ℕ, ◌+◌, ◌<◌, ◌≤◌, true, false, List, [], ◌∷◌, ◌++◌, length, take, Some, None, refl, sym, ap, ◌∙◌, subst, arith, length-append, append_assoc, append-nil}
+use Rattle.std.proofs.Common.{◌≡◌, ℕ, ◌+◌, ◌<◌, ◌≤◌, true, false, List, [], ◌∷◌, ◌++◌, length, take, Some, None, refl, sym, ap, ◌∙◌, subst, arith}
+use Rattle.std.proofs.Common.{length-append, append_assoc, append-nil}
 use Rattle.std.proofs.KnownBytes.{Consumes-trans, Consumes-kept}
 use Rattle.std.proofs.lemmas.List.{take-append-le, take_all, nil_from_length}
 use Rattle.std.specs.Io.KnownBytes.{prepend_known, Consumes, Keeps, IsAtEnd}
@@ -53,14 +54,16 @@ ReadsOneBuffer-grown old new a b grown fits =
     (grown.more, omega (arith, fits, ap length grown.held, length-append old.held grown.more), grown.source)
 
 -- the held bytes begin with a line
-pub Takes-text : (old new line rest : List ℕ) (a b : Option (List ℕ)) → Grown old new a b → IsShortLine line → new ≡ line ++ newline ∷ rest → Takes (prepend_known old a) (Text line) (prepend_known rest b)
+pub Takes-text : (old new line rest : List ℕ) (a b : Option (List ℕ)) → Grown old new a b → IsShortLine line → new ≡ line ++ newline ∷ rest
+    → Takes (prepend_known old a) (Text line) (prepend_known rest b)
 Takes-text old new line rest None b grown short is = tt
 Takes-text old new line rest (Some xs) None grown short is = absurd grown.source
 Takes-text old new line rest (Some xs) (Some ys) grown short is =
     (short, sym (Keeps-grown old new (Some xs) (Some ys) grown) ∙ ap (λ (zs : List ℕ). zs ++ ys) is ∙ append_assoc line (newline ∷ rest) ys)
 
 -- the held bytes are too long
-pub Takes-too_long : (old new : List ℕ) (a b : Option (List ℕ)) → Grown old new a b → 80 < length new → HasNoNewline (take 81 new) → Takes (prepend_known old a) TooLong (Some [])
+pub Takes-too_long : (old new : List ℕ) (a b : Option (List ℕ)) → Grown old new a b → 80 < length new → HasNoNewline (take 81 new)
+    → Takes (prepend_known old a) TooLong (Some [])
 Takes-too_long old new None b grown long none = tt
 Takes-too_long old new (Some xs) None grown long none = absurd grown.source
 Takes-too_long old new (Some xs) (Some ys) grown long none =
@@ -69,7 +72,8 @@ Takes-too_long old new (Some xs) (Some ys) grown long none =
     (omega (arith, long, ap length before, length-append new ys), subst HasNoNewline front none, refl)
 
 -- the held bytes are the last, with no newline
-pub Takes-cut_short : (old new : List ℕ) (a b : Option (List ℕ)) → Grown old new a b → IsAtEnd b → 0 < length new → length new ≤ 80 → HasNoNewline (take 81 new) → Takes (prepend_known old a) CutShort (Some [])
+pub Takes-cut_short : (old new : List ℕ) (a b : Option (List ℕ)) → Grown old new a b → IsAtEnd b → 0 < length new → length new ≤ 80
+    → HasNoNewline (take 81 new) → Takes (prepend_known old a) CutShort (Some [])
 Takes-cut_short old new None b grown end some short none = tt
 Takes-cut_short old new (Some xs) None grown end some short none = absurd grown.source
 Takes-cut_short old new (Some xs) (Some ys) grown end some short none =
@@ -78,7 +82,9 @@ Takes-cut_short old new (Some xs) (Some ys) grown end some short none =
     (subst (λ (zs : List ℕ). 0 < length zs) before some, subst IsShortLine before line, refl)
 
 -- a line was handed out
-pub HandsOut-text : (old new : Reader) (held : List ℕ) (len : ℕ) (a b : Option (List ℕ)) → old.is_done ≡ false → new.is_done ≡ false → new.number ≡ old.number + 1 → Grown old.held held a b → Stands held len → new.line ≡ take len held → held ≡ take len held ++ newline ∷ new.held → HandsOut old new a b (Text new.line)
+pub HandsOut-text : (old new : Reader) (held : List ℕ) (len : ℕ) (a b : Option (List ℕ)) → old.is_done ≡ false → new.is_done ≡ false
+    → new.number ≡ old.number + 1 → Grown old.held held a b → Stands held len → new.line ≡ take len held → held ≡ take len held ++ newline ∷ new.held
+    → HandsOut old new a b (Text new.line)
 HandsOut-text old new held len a b reading goes_on number grown stands line split =
     let short : IsShortLine new.line = subst IsShortLine (sym line) stands.line in
     let is : held ≡ new.line ++ newline ∷ new.held = split ∙ ap (λ (zs : List ℕ). zs ++ newline ∷ new.held) (sym line) in
@@ -91,7 +97,8 @@ HandsOut-text old new held len a b reading goes_on number grown stands line spli
     }
 
 -- no line was handed out, and the reader is done
-pub HandsOut-done : (old new : Reader) (next : Next) (a b : Option (List ℕ)) → old.is_done ≡ false → new.is_done ≡ true → new.number ≡ old.number → is_text next ≡ false → IsLine next → Takes (prepend_known old.held a) next (Some []) → HasEnded next b → HandsOut old new a b next
+pub HandsOut-done : (old new : Reader) (next : Next) (a b : Option (List ℕ)) → old.is_done ≡ false → new.is_done ≡ true → new.number ≡ old.number
+    → is_text next ≡ false → IsLine next → Takes (prepend_known old.held a) next (Some []) → HasEnded next b → HandsOut old new a b next
 HandsOut-done old new next a b reading done number no_text form takes end = record {
   bytes = rw (reading, done) takes;
   form = form;

@@ -3,6 +3,8 @@ use Rattle.std.specs.Prelude.{ℕ, ◌≤◌, ◌<◌, List, length, take, ⊤, 
 use Rattle.std.specs.declared.result.Result.{Result}
 use Rattle.std.specs.declared.option.Option.{Option}
 use Rattle.std.specs.Borrow.{Bor}
+use Rattle.std.specs.Coded.{Coded-set, coded_list, coded_ℕ, Unit-prop}
+use Rattle.std.specs.Io.{StartsWith}
 use Rattle.std.specs.Io.KnownBytes.{Appends}
 use Rattle.std.specs.List.{flat_map}
 
@@ -24,3 +26,14 @@ IsHonest (Some room) (Some bytes) faults = 0 < faults → room ≤ length bytes
 -- the pieces, one behind the other
 abbrev pub joined : List (Bor (List ℕ)) → List ℕ
 joined pieces = flat_map (λ piece. piece.now) pieces
+
+-- Told bytes stay told, at the front of what is told later.
+abbrev pub HasGrown : Option (List ℕ) → Option (List ℕ) → Type 0
+HasGrown None new = ⊤
+HasGrown (Some xs) None = ⊥
+HasGrown (Some xs) (Some ys) = StartsWith ys xs
+
+pub HasGrown-prop : (old new : Option (List ℕ)) → IsProp (HasGrown old new)
+HasGrown-prop None new = Unit-prop
+HasGrown-prop (Some xs) None = λ x. absurd x
+HasGrown-prop (Some xs) (Some ys) = Coded-set (coded_list coded_ℕ) (take (length xs) ys) xs

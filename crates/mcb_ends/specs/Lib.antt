@@ -2,6 +2,7 @@ pub mod Advance
 pub mod Bytes
 pub mod Calls
 pub mod Causes
+pub mod Gathered
 pub mod Lines
 pub mod MemSink
 pub mod MemSource
@@ -9,3 +10,4 @@ pub mod Reader
 pub mod Room
 pub mod StdSink
 pub mod StdSource
+pub mod SureSource

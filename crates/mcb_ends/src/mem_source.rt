@@ -1,17 +1,16 @@
-ghost use Rattle.std.specs.Prelude.{◌-◌, ◌^◌, ◌<◌, ◌≤◌, length};
+ghost use Rattle.std.specs.Prelude.{◌-◌, ◌^◌, ◌<◌, ◌≤◌};
 
 use crate::calls::Calls;
+use crate::unread::Unread;
 use crate::{Failed, Source};
 
 /// A source in memory. It hands out at most `piece` bytes in a call, and fails exactly in the calls
 /// whose numbers, counted from 1, are listed.
 #[derive(Drop)]
 pub struct MemSource {
-    bytes: Vec<u8>,
-    at: usize,
+    unread: Unread,
     piece: usize,
     calls: Calls,
-    ghost within: { at ≤ length bytes.items },
     ghost positive: { 0 < piece },
     ghost counted: { calls.faults ≤ 2 ^ 64 - 1 },
 }
@@ -27,8 +26,7 @@ impl MemSource {
         ensures calls { source_calls result ≡ record { fails = fails.items; made = 0; faults = 0 } }
     {
         MemSource {
-            bytes,
-            at: 0,
+            unread: Unread::new(bytes),
             piece,
             calls: Calls::new(fails),
         }
@@ -43,7 +41,7 @@ impl MemSource {
 }
 
 impl Source for MemSource {
-    ghost use Rattle.std.specs.Prelude.{◌≡◌, ◌↔◌, ◌-◌, ◌^◌, ◌≤◌, Some, length, min, IfOk, IsErr, Contains};
+    ghost use Rattle.std.specs.Prelude.{◌≡◌, ◌↔◌, ◌-◌, ◌^◌, ◌≤◌, Some, length, min, IfOk, IsErr, OnErr, Contains};
     ghost use Rattle.std.specs.Io.KnownBytes.{ReadConsumes};
     ghost use Rattle.mcb_ends.specs.Calls.{CountsCall};
     ghost use Rattle.mcb_ends.specs.Causes.{HasCause};
@@ -59,6 +57,7 @@ impl Source for MemSource {
     fn read(&mut self, buf: &mut [u8]) -> Result<usize, Failed>
         ensures bound { IfOk result (λ n. n ≤ length buf.new) }
         ensures bytes { ReadConsumes (Some (source_left self.old)) (Some (source_left self.new)) result buf.new }
+        ensures buffer { OnErr result (buf.new ≡ buf.old) }
         ensures cause { HasCause (source_calls self.old).faults (source_calls self.new).faults result }
 
         ensures count { IfOk result (λ n. n ≡ min (length buf.new)
@@ -69,10 +68,6 @@ impl Source for MemSource {
         ensures piece { source_piece self.new ≡ source_piece self.old }
     {
         self.calls.begin()?;
-        let rest = &self.bytes[self.at..];
-        let count = buf.len().min(self.piece).min(rest.len());
-        buf[..count].copy_from_slice(&rest[..count]);
-        self.at += count;
-        Ok(count)
+        Ok(self.unread.hand_out(buf, self.piece))
     }
 }

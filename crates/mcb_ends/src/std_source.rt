@@ -3,10 +3,15 @@ ghost use Rattle.std.specs.Prelude.{◌-◌, ◌^◌, ◌≤◌};
 use crate::{Failed, Source};
 use std::io::Read;
 
-/// A source over one of std's readers. It counts a fault at each `Err`.
+// How many bytes a call reads at most.
+const SIZE: usize = 4096;
+
+/// A source over one of std's readers. It counts a fault at each `Err`. It reads into a block of its
+/// own, since a reader that fails may have changed the buffer that it was lent.
 #[derive(Drop)]
 pub struct StdSource<R> {
     reader: R,
+    block: [u8; SIZE],
     faults: u64,
     ghost counted: { faults ≤ 2 ^ 64 - 1 },
 }
@@ -19,7 +24,11 @@ impl<R> StdSource<R> {
         ensures reader { source_reader result ≡ reader }
         ensures faults { source_faults result ≡ 0 }
     {
-        StdSource { reader, faults: 0 }
+        StdSource {
+            reader,
+            block: [0; SIZE],
+            faults: 0,
+        }
     }
 }
 
@@ -34,8 +43,13 @@ impl<R: Read + Drop> Source for StdSource<R> {
     ghost counted = { λ source. source.counted };
 
     fn read(&mut self, buf: &mut [u8]) -> Result<usize, Failed> {
-        match self.reader.read(buf) {
-            Ok(count) => Ok(count),
+        let most = buf.len().min(SIZE);
+        let block = &mut self.block[..];
+        match self.reader.read(&mut block[..most]) {
+            Ok(count) => {
+                buf[..count].copy_from_slice(&block[..count]);
+                Ok(count)
+            }
             Err(_) => {
                 self.faults = self.faults.saturating_add(1);
                 Err(Failed)

@@ -1,7 +1,10 @@
-ghost use Rattle.std.specs.Prelude.{◌<◌};
+ghost use Rattle.std.specs.Prelude.{◌≡◌, ◌<◌};
+ghost use Rattle.mcb_ends.specs.Bytes.{Writes};
+ghost use Rattle.mcb_ends.specs.Causes.{HasCause};
 
 use super::*;
 use std::alloc::Global;
+use std::marker::Brand;
 use std::process::Abort;
 use std::test::Fail;
 
@@ -135,5 +138,63 @@ fn decimals_are_canonical(rt: HostRuntime) -> Result<(), Fail> {
         Decimal::new(u64::MAX).digits(),
         b"18446744073709551615".as_slice()
     );
+    Ok(())
+}
+
+#[test]
+fn sure_ends_never_fail(rt: HostRuntime) -> Result<(), Fail> {
+    let alloc = rt.alloc();
+    let mut src = SureSource::new(b"abc".to_vec(alloc)?);
+    let mut buf = [0; 2];
+    assert_eq!(rt; src.read(&mut buf), Ok(2));
+    assert_eq!(rt; buf.as_slice(), b"ab".as_slice());
+    assert_eq!(rt; src.read(&mut buf), Ok(1));
+    assert_eq!(rt; src.read(&mut buf), Ok(0));
+    let mut out = Gathered::<SureSink, Brand>::new(SureSink::new());
+    assert_eq!(rt; put(&mut out, b"abc"), Ok(()));
+    assert_eq!(rt; out.flush(), Ok(()));
+    let (_out, result) = out.finish();
+    assert_eq!(rt; result, Ok(()));
+    Ok(())
+}
+
+// Writes a text through a sink that gathers.
+fn gather<K: Sink>(out: K, text: &[u8]) -> (K, Result<(), Failed>)
+    ensures text { Writes (K.written out) (K.written result.0) result.1 text.now }
+    ensures room { K.room result.0 ≡ K.room out }
+    ensures cause { HasCause (K.faults out) (K.faults result.0) result.1 }
+{
+    gather_after::<K, Brand>(out, text)
+}
+
+fn gather_after<K: Sink, B: Before>(out: K, text: &[u8]) -> (K, Result<(), Failed>)
+    requires { K.written out ≡ B.taken }
+    ensures text { Writes (K.written out) (K.written result.0) result.1 text.now }
+    ensures room { K.room result.0 ≡ K.room out }
+    ensures cause { HasCause (K.faults out) (K.faults result.0) result.1 }
+{
+    let mut gathered = Gathered::<K, B>::new(out);
+    match put(&mut gathered, text) {
+        Ok(()) => gathered.finish(),
+        Err(failed) => {
+            let (out, _) = gathered.finish();
+            (out, Err(failed))
+        }
+    }
+}
+
+#[test]
+fn gathered_bytes_are_passed_on(rt: HostRuntime) -> Result<(), Fail> {
+    let alloc = rt.alloc();
+    let mut text = vec![in alloc; b'a'; 4096]?;
+    text.extend_from_slice(b"bcd")?;
+    let out = MemSink::new(alloc, 5000, 4000, Vec::new(alloc))?;
+    let (out, result) = gather(out, &text);
+    assert_eq!(rt; result, Ok(()));
+    assert_eq!(rt; out.bytes(), text.as_slice());
+    let out = MemSink::new(alloc, 5000, 4000, [2].to_vec(alloc)?)?;
+    let (out, result) = gather(out, &text);
+    assert_eq!(rt; result, Err(Failed));
+    assert_eq!(rt; out.bytes(), &text[..4000]);
     Ok(())
 }

@@ -1,5 +1,6 @@
 -- The loop over the terms of an arctangent series, which is kept 1024 times as large.
-use Rattle.std.proofs.Common.{◌≡◌, refl, sym, subst, subst₂, ap, ◌∙◌, ℕ, zero, suc, ◌+◌, ◌*◌, ◌^◌, ◌%◌, ◌<◌, ◌≤◌, cond, pos, ◌+ℤ◌, ◌≤ℤ◌, eqb, arith, lit<, lit≤, mul-pos}
+use Rattle.std.proofs.Common.{◌≡◌, refl, sym, subst, subst₂, ap, ◌∙◌, ℕ, zero, suc, ◌+◌, ◌*◌, ◌^◌, ◌%◌, ◌<◌, ◌≤◌, cond, pos, ◌+ℤ◌, ◌≤ℤ◌, eqb, arith}
+use Rattle.std.proofs.Common.{lit<, lit≤, mul-pos}
 use Rattle.std.proofs.Math.Nat.{pow-suc, pow-zero, one-le-pow, mod-lt, mod-eq_of_lt}
 use Rattle.std.proofs.Math.Pow.{pow_mono}
 use Rattle.std.proofs.lemmas.Int.{ints, to_z_pos}
@@ -67,9 +68,11 @@ next_sum k j = refl
 signed : (j : ℕ) (c s t : ℚ) → cond (eqb (j % 2) 1) (c *ℚ s +ℚ c *ℚ t) (c *ℚ s -ℚ c *ℚ t) ≡ c *ℚ (s +ℚ sign (suc j) *ℚ t)
 signed j c s t = by_parity (j % 2) (sign (suc j)) (sign_next j) (mod-lt j (lit< tt))
   where
-    by_parity : (r : ℕ) (x : ℚ) → (r ≡ 0 → x ≡ neg_ℚ (whole 1)) × (r ≡ 1 → x ≡ whole 1) → r < 2 → cond (eqb r 1) (c *ℚ s +ℚ c *ℚ t) (c *ℚ s -ℚ c *ℚ t) ≡ c *ℚ (s +ℚ x *ℚ t)
+    by_parity : (r : ℕ) (x : ℚ) → (r ≡ 0 → x ≡ neg_ℚ (whole 1)) × (r ≡ 1 → x ≡ whole 1) → r < 2
+        → cond (eqb r 1) (c *ℚ s +ℚ c *ℚ t) (c *ℚ s -ℚ c *ℚ t) ≡ c *ℚ (s +ℚ x *ℚ t)
     by_parity zero x h l =
-        subst (λ y. c *ℚ s -ℚ c *ℚ t ≡ c *ℚ (s +ℚ y *ℚ t)) (sym (h.0 refl)) (ring₃ ℚ_ring (λ c s t. c ⊠ s ⊟ c ⊠ t) (λ c s t. c ⊠ (s ⊞ opp (num 1) ⊠ t)) refl c s t)
+        subst (λ y. c *ℚ s -ℚ c *ℚ t ≡ c *ℚ (s +ℚ y *ℚ t)) (sym (h.0 refl))
+        (ring₃ ℚ_ring (λ c s t. c ⊠ s ⊟ c ⊠ t) (λ c s t. c ⊠ (s ⊞ opp (num 1) ⊠ t)) refl c s t)
     by_parity (suc zero) x h l =
         subst (λ y. c *ℚ s +ℚ c *ℚ t ≡ c *ℚ (s +ℚ y *ℚ t)) (sym (h.1 refl)) (ring₃ ℚ_ring (λ c s t. c ⊠ s ⊞ c ⊠ t) (λ c s t. c ⊠ (s ⊞ num 1 ⊠ t)) refl c s t)
     by_parity (suc (suc r)) x h l = absurd (omega arith)
@@ -98,10 +101,15 @@ guarded_narrow bits h =
 -- a part of a narrow interval is narrow
 pub part_narrow : (x r : Ends) (d : ℕ) → 2 ≤ d → IsFloor r.lo x.lo (pos d) → IsCeiling r.hi x.hi (pos d) → IsNarrow x → IsNarrow r
 part_narrow x r d h low high n =
-    record { width = quotient_width x r d 2 1 (omega arith) low high n.width (omega arith); size = quotient_within x r d (2 ^ 70) (2 ^ 70) (omega arith) low high n.size (omega arith) }
+    record {
+      width = quotient_width x r d 2 1 (omega arith) low high n.width (omega arith);
+      size = quotient_within x r d (2 ^ 70) (2 ^ 70)
+          (omega arith) low high n.size (omega arith);
+    }
 
 -- the first power and the first sum
-pub first : (bits k : ℕ) (one power : Ends) → 2 ≤ k → Encloses bits one (whole 1024) → ((v : ℚ) → Encloses bits one (v *ℚ whole k) → Encloses bits power v) → IsNarrow power → SoFar bits k 0 power power
+pub first : (bits k : ℕ) (one power : Ends) → 2 ≤ k → Encloses bits one (whole 1024)
+    → ((v : ℚ) → Encloses bits one (v *ℚ whole k) → Encloses bits power v) → IsNarrow power → SoFar bits k 0 power power
 first bits k one power h is_one part narrow =
     let inverse : pos 1 ÷ k *ℚ whole k ≡ whole 1 = over-mul (pos 1) k (omega arith) in
     let whole_part : whole 1024 *ℚ (pos 1 ÷ k ^ 1) *ℚ whole k ≡ whole 1024 =
@@ -109,7 +117,8 @@ first bits k one power h is_one part narrow =
     ∙ ring₃ ℚ_ring (λ c x k. (c ⊠ x) ⊠ k) (λ c x k. c ⊠ (x ⊠ k)) refl (whole 1024) (pos 1 ÷ k) (whole k)
     ∙ ap (λ t. whole 1024 *ℚ t) inverse ∙ mul-one (whole 1024)
     in
-    let power_is : Encloses bits power (whole 1024 *ℚ (pos 1 ÷ k ^ 1)) = part (whole 1024 *ℚ (pos 1 ÷ k ^ 1)) (subst (Encloses bits one) (sym whole_part) is_one) in
+    let power_is : Encloses bits power (whole 1024 *ℚ (pos 1 ÷ k ^ 1)) = part (whole 1024 *ℚ (pos 1 ÷ k ^ 1))
+    (subst (Encloses bits one) (sym whole_part) is_one) in
     record {
       power_encloses = power_is;
       power_narrow = narrow;
@@ -132,7 +141,8 @@ next bits k j power sum power' term sum' h before power_part narrow term_part lo
     let new = k ^ (2 * suc j + 1) in
     let power_value = whole 1024 *ℚ (pos 1 ÷ new) in
     let divided : power_value *ℚ whole (k * k) ≡ whole 1024 *ℚ (pos 1 ÷ old) =
-    ap (λ d. whole 1024 *ℚ (pos 1 ÷ d) *ℚ whole (k * k)) (next_power k j) ∙ part_of (whole 1024) (k * k) old (mul-pos positive positive) (one-le-pow (2 * j + 1) k positive)
+    ap (λ d. whole 1024 *ℚ (pos 1 ÷ d) *ℚ whole (k * k)) (next_power k j)
+    ∙ part_of (whole 1024) (k * k) old (mul-pos positive positive) (one-le-pow (2 * j + 1) k positive)
     in
     let power_is : Encloses bits power' power_value = power_part power_value (subst (Encloses bits power) (sym divided) before.power_encloses) in
     let term_value = whole 1024 *ℚ (pos 1 ÷ ((2 * suc j + 1) * new)) in
@@ -163,7 +173,8 @@ pub series_within : (n : ℕ) (x : Ends) → n ≤ 40 → IsWithin (2 ^ 70 * (n 
 series_within n x h k = within_more (2 ^ 70 * (n + 1)) (2 ^ 76) x (omega arith) k
 
 -- the difference of the multiples stays in range
-pub machin_room : (n : ℕ) (x y s t : Ends) → n ≤ 40 → IsWithin (2 ^ 70 * (n + 1)) x → IsWithin (2 ^ 70 * (n + 1)) y → s ≡ multiple_of (pos 16) x → t ≡ multiple_of (pos 4) y → IsWithin (2 ^ 100) (difference_of s t)
+pub machin_room : (n : ℕ) (x y s t : Ends) → n ≤ 40 → IsWithin (2 ^ 70 * (n + 1)) x → IsWithin (2 ^ 70 * (n + 1)) y → s ≡ multiple_of (pos 16) x
+    → t ≡ multiple_of (pos 4) y → IsWithin (2 ^ 100) (difference_of s t)
 machin_room n x y s t h k l s_is t_is =
     subst₂ (λ s t. IsWithin (2 ^ 100) (difference_of s t)) (sym s_is) (sym t_is)
     (within_more (16 * 2 ^ 76 + 4 * 2 ^ 76) (2 ^ 100) (difference_of (multiple_of (pos 16) x) (multiple_of (pos 4) y)) (lit≤ tt)
@@ -171,15 +182,19 @@ machin_room n x y s t h k l s_is t_is =
     (multiple_within (pos 16) x 16 (2 ^ 76) (lit≤ tt) (series_within n x h k)) (multiple_within (pos 4) y 4 (2 ^ 76) (lit≤ tt) (series_within n y h l))))
 
 pub multiple_room : (n : ℕ) (x : Ends) → n ≤ 40 → IsWithin (2 ^ 70 * (n + 1)) x → IsWithin (2 ^ 100) (multiple_of (pos 4) x)
-multiple_room n x h k = within_more (4 * 2 ^ 76) (2 ^ 100) (multiple_of (pos 4) x) (lit≤ tt) (multiple_within (pos 4) x 4 (2 ^ 76) (lit≤ tt) (series_within n x h k))
+multiple_room n x h k = within_more (4 * 2 ^ 76) (2 ^ 100) (multiple_of (pos 4) x) (lit≤ tt)
+    (multiple_within (pos 4) x 4 (2 ^ 76) (lit≤ tt) (series_within n x h k))
 
 -- the width of the answer: at most 82 units for each series, of which 1024 are one
-pub machin_width : (n : ℕ) (x y s t u r : Ends) → n ≤ 40 → x.lo ≤ℤ x.hi → y.lo ≤ℤ y.hi → x.hi ≤ℤ (x.lo +ℤ pos (2 * (n + 1))) → y.hi ≤ℤ (y.lo +ℤ pos (2 * (n + 1)))
-    → s ≡ multiple_of (pos 16) x → t ≡ multiple_of (pos 4) y → u ≡ difference_of s t → IsFloor r.lo u.lo (pos 1024) → IsCeiling r.hi u.hi (pos 1024) → r.hi ≤ℤ (r.lo +ℤ pos 64)
+pub machin_width : (n : ℕ) (x y s t u r : Ends) → n ≤ 40 → x.lo ≤ℤ x.hi → y.lo ≤ℤ y.hi → x.hi ≤ℤ (x.lo +ℤ pos (2 * (n + 1)))
+    → y.hi ≤ℤ (y.lo +ℤ pos (2 * (n + 1)))
+    → s ≡ multiple_of (pos 16) x → t ≡ multiple_of (pos 4) y → u ≡ difference_of s t → IsFloor r.lo u.lo (pos 1024) → IsCeiling r.hi u.hi (pos 1024)
+    → r.hi ≤ℤ (r.lo +ℤ pos 64)
 machin_width n x y s t u r h x_order y_order x_width y_width s_is t_is u_is low high =
     let w = 2 * (n + 1) in
     let s_width : s.hi ≤ℤ (s.lo +ℤ pos (16 * w)) = subst (λ (e : Ends). e.hi ≤ℤ (e.lo +ℤ pos (16 * w))) (sym s_is) (multiple_width 16 x w x_order x_width) in
     let t_width : t.hi ≤ℤ (t.lo +ℤ pos (4 * w)) = subst (λ (e : Ends). e.hi ≤ℤ (e.lo +ℤ pos (4 * w))) (sym t_is) (multiple_width 4 y w y_order y_width) in
-    let u_width : u.hi ≤ℤ (u.lo +ℤ pos (16 * w + 4 * w)) = subst (λ (e : Ends). e.hi ≤ℤ (e.lo +ℤ pos (16 * w + 4 * w))) (sym u_is) (difference_width s t (16 * w) (4 * w) s_width t_width) in
+    let u_width : u.hi ≤ℤ (u.lo +ℤ pos (16 * w + 4 * w)) = subst (λ (e : Ends). e.hi ≤ℤ (e.lo +ℤ pos (16 * w + 4 * w))) (sym u_is)
+    (difference_width s t (16 * w) (4 * w) s_width t_width) in
     let narrow : r.hi ≤ℤ (r.lo +ℤ pos 3) = quotient_width u r 1024 (16 * w + 4 * w) 2 (lit< tt) low high u_width (omega arith) in
     omega (arith, ints)

@@ -1,31 +1,18 @@
--- The approximations of pi lie between the constants of both scales: four orders between fixed fractions, which are
--- computed.
-use Rattle.std.proofs.Common.{◌^◌, pos}
-use Rattle.rat_core.specs.Fraction.{◌÷◌, whole, ◌+ℚ◌, ◌*ℚ◌, neg_ℚ, ◌≤ℚ◌, at_most}
+-- The approximations of pi come to lie between the constants of both scales.
+use Rattle.std.proofs.Common.{ℕ, ℤ, pos}
 use Rattle.trig_meaning.specs.PartialSums.{pi_sum}
 use Rattle.trig_meaning.specs.FromSomeOn.{FromSomeOn}
-use Rattle.trig_meaning.proofs.PiSums.{lower, upper}
+use Rattle.trig_meaning.specs.Laws.{PiWithin}
+use Rattle.trig_meaning.proofs.FromSomeOnLaws.{onward}
+use Rattle.trig_meaning.proofs.PiBetween.{pi_between_lem}
 use Rattle.directed_fixed.specs.Ends.{Encloses}
-use Rattle.directed_fixed.proofs.PiSums.{between}
 
-fine_low : pos 0x3243F6A8885A308D ÷ 1 ≤ℚ lower *ℚ whole (2 ^ 60)
-unfolding lower at_most ◌+ℚ◌ ◌*ℚ◌ ◌÷◌ neg_ℚ
-fine_low = record { le = tt }
-
-fine_high : upper *ℚ whole (2 ^ 60) ≤ℚ pos 0x3243F6A8885A308E ÷ 1
-unfolding upper at_most ◌+ℚ◌ ◌*ℚ◌ ◌÷◌ neg_ℚ
-fine_high = record { le = tt }
-
-coarse_low : pos 0x3243F6A8885 ÷ 1 ≤ℚ lower *ℚ whole (2 ^ 40)
-unfolding lower at_most ◌+ℚ◌ ◌*ℚ◌ ◌÷◌ neg_ℚ
-coarse_low = record { le = tt }
-
-coarse_high : upper *ℚ whole (2 ^ 40) ≤ℚ pos 0x3243F6A8886 ÷ 1
-unfolding upper at_most ◌+ℚ◌ ◌*ℚ◌ ◌÷◌ neg_ℚ
-coarse_high = record { le = tt }
+enclosed : (bits : ℕ) (lo hi : ℤ) → FromSomeOn (PiWithin bits lo hi)
+    → FromSomeOn (λ n. Encloses bits (record { lo = lo; hi = hi }) (pi_sum n))
+enclosed bits lo hi = onward (λ n b. record { low = b.low; high = b.high })
 
 pub fine_between : FromSomeOn (λ n. Encloses 60 (record { lo = pos 0x3243F6A8885A308D; hi = pos 0x3243F6A8885A308E }) (pi_sum n))
-fine_between = between 60 (pos 0x3243F6A8885A308D) (pos 0x3243F6A8885A308E) fine_low fine_high
+fine_between = enclosed 60 (pos 0x3243F6A8885A308D) (pos 0x3243F6A8885A308E) pi_between_lem.fine
 
 pub coarse_between : FromSomeOn (λ n. Encloses 40 (record { lo = pos 0x3243F6A8885; hi = pos 0x3243F6A8886 }) (pi_sum n))
-coarse_between = between 40 (pos 0x3243F6A8885) (pos 0x3243F6A8886) coarse_low coarse_high
+coarse_between = enclosed 40 (pos 0x3243F6A8885) (pos 0x3243F6A8886) pi_between_lem.coarse

@@ -1,5 +1,6 @@
 -- The order of two written fractions is that of their cross products, which fit 128 bits.
-use Rattle.std.proofs.Common.{◌≡◌, sym, ap₂, ◌∙◌, ℕ, ◌<◌, ◌^◌, cond, ℤ, pos, negsuc, ◌*ℤ◌, ◌<ℤ◌, unsigned_abs, Less, Equal, Greater, int_cmp, int_le, arith, ltb→lt, lit<, lit≤}
+use Rattle.std.proofs.Common.{◌≡◌, sym, ap₂, ◌∙◌, ℕ, ◌<◌, ◌^◌, cond, ℤ, pos, negsuc, ◌*ℤ◌, ◌<ℤ◌, unsigned_abs, Less, Equal, Greater, int_cmp, int_le}
+use Rattle.std.proofs.Common.{arith, ltb→lt, lit<, lit≤}
 use Rattle.std.specs.Prelude.{FitsSigned}
 use Rattle.std.proofs.lemmas.Int.{ints, fits_signed_from_abs, fits_signed_mul}
 use mir.Syntax.{w128}

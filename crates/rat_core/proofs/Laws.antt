@@ -1,116 +1,23 @@
--- Fractions are an ordered field: the ring for the solver, and the order for certificates. What is shown of all pairs
--- holds of all fractions (`ind₁` to `ind₃`).
-use mathlib.Core.Quot.{Quot-set, mk, sound, ind}
-use Rattle.std.proofs.Common.{◌≡◌, refl, sym, ap, ap₂, ◌∙◌, subst, ℕ, zero, suc, ◌*◌, ◌<◌, Bool, true, false, not, T, ℤ, pos, ◌+ℤ◌, ◌-ℤ◌, ◌*ℤ◌, neg_ℤ, ◌≤ℤ◌, ◌<ℤ◌, [], ◌∷◌, arith, mul-pos, T_not}
+-- Fractions are an ordered field: quotients, and the order for certificates.
+use mathlib.Core.Quot.{Quot-set, mk, sound}
+use Rattle.std.proofs.Common.{◌≡◌, refl, sym, ap, ap₂, ◌∙◌, subst, ℕ, zero, suc, ◌*◌, ◌<◌, Bool, true, false, not, T, ℤ, pos, ◌+ℤ◌, ◌*ℤ◌, neg_ℤ, ◌≤ℤ◌}
+use Rattle.std.proofs.Common.{◌<ℤ◌, [], ◌∷◌, arith, mul-pos, T_not}
 use Rattle.std.proofs.Math.Dec.{T_prop, not_T}
 use Rattle.std.specs.Int.Signed.{≤ℤ_refl, le_z_yes, clash_ℤ}
 use Rattle.std.specs.Prelude.{int_le}
-use Rattle.ring_solver.specs.Ring.{CommutativeRing, Image}
 use Rattle.ring_solver.specs.Ordered.{OrderedRing, times}
-use Rattle.ring_solver.specs.Expression.{num, ◌⊞◌, ◌⊠◌, opp}
-use Rattle.ring_solver.proofs.Solver.{ring₂, ring₄, ring₆}
+use Rattle.ring_solver.specs.Expression.{num, ◌⊞◌, ◌⊠◌}
+use Rattle.ring_solver.proofs.Solver.{ring₂}
 use Rattle.ring_solver.proofs.Certificate.{le₄, le₆, moved, at_most_of_same}
 use mathlib.Core.HLevel.{Π_prop}
 use borrow.Author.Differences.{below_in, le_in, le_not}
 use Rattle.std.proofs.Math.IntN.{zero-*ℤ}
 use Rattle.ring_solver.proofs.Whole.{ℤ_ring, ℤ_ordered, pos_le, ≤ℤ_antisym, *ℤ_mono_back}
 use Rattle.rat_core.specs.Ratio.{Ratio}
-use Rattle.rat_core.specs.Fraction.{ℚ, ◌÷◌, whole, ◌+ℚ◌, ◌-ℚ◌, ◌*ℚ◌, neg_ℚ, at_most, ◌≤ℚ◌, ◌<ℚ◌}
-
-pub ind₁ : (P : ℚ → Type 0) → ((x : ℚ) → IsProp (P x)) → ((a : Ratio) → P (mk a)) → (x : ℚ) → P x
-ind₁ P prop f x = ind {β = P} prop f x
-
-pub ind₂ : (P : ℚ → ℚ → Type 0) → ((x y : ℚ) → IsProp (P x y)) → ((a b : Ratio) → P (mk a) (mk b)) → (x y : ℚ) → P x y
-ind₂ P prop f x y = ind₁ (λ x. P x y) (λ x. prop x y) (λ a. ind₁ (λ y. P (mk a) y) (λ y. prop (mk a) y) (f a) y) x
-
-pub ind₃ : (P : ℚ → ℚ → ℚ → Type 0) → ((x y z : ℚ) → IsProp (P x y z)) → ((a b c : Ratio) → P (mk a) (mk b) (mk c)) → (x y z : ℚ) → P x y z
-ind₃ P prop f x y z = ind₂ (λ x y. P x y z) (λ x y. prop x y z) (λ a b. ind₁ (λ z. P (mk a) (mk b) z) (λ z. prop (mk a) (mk b) z) (f a b) z) x y
-
--- ---- the ring
-
-pub add_assoc : (x y z : ℚ) → (x +ℚ y) +ℚ z ≡ x +ℚ (y +ℚ z)
-unfolding ◌+ℚ◌
-add_assoc = ind₃ (λ x y z. (x +ℚ y) +ℚ z ≡ x +ℚ (y +ℚ z)) (λ x y z. Quot-set _ _)
-    (λ a b c. sound (ring₆ ℤ_ring
-    (λ n d m e k f. ((n ⊠ e ⊞ m ⊠ d) ⊠ f ⊞ k ⊠ (d ⊠ e)) ⊠ (d ⊠ (e ⊠ f)))
-    (λ n d m e k f. (n ⊠ (e ⊠ f) ⊞ (m ⊠ f ⊞ k ⊠ e) ⊠ d) ⊠ ((d ⊠ e) ⊠ f))
-    refl a.num (pos a.den) b.num (pos b.den) c.num (pos c.den)))
-
-pub add_comm : (x y : ℚ) → x +ℚ y ≡ y +ℚ x
-unfolding ◌+ℚ◌
-add_comm = ind₂ (λ x y. x +ℚ y ≡ y +ℚ x) (λ x y. Quot-set _ _)
-    (λ a b. sound (ring₄ ℤ_ring (λ n d m e. (n ⊠ e ⊞ m ⊠ d) ⊠ (e ⊠ d)) (λ n d m e. (m ⊠ d ⊞ n ⊠ e) ⊠ (d ⊠ e)) refl a.num (pos a.den) b.num (pos b.den)))
-
-pub add-zero : (x : ℚ) → x +ℚ whole 0 ≡ x
-unfolding ◌+ℚ◌ ◌÷◌
-add-zero = ind₁ (λ x. x +ℚ whole 0 ≡ x) (λ x. Quot-set _ _)
-    (λ a. sound (ring₂ ℤ_ring (λ n d. (n ⊠ num 1 ⊞ num 0 ⊠ d) ⊠ d) (λ n d. n ⊠ (d ⊠ num 1)) refl a.num (pos a.den)))
-
-pub add-neg : (x : ℚ) → x +ℚ neg_ℚ x ≡ whole 0
-unfolding ◌+ℚ◌ neg_ℚ ◌÷◌
-add-neg = ind₁ (λ x. x +ℚ neg_ℚ x ≡ whole 0) (λ x. Quot-set _ _)
-    (λ a. sound (ring₂ ℤ_ring (λ n d. (n ⊠ d ⊞ opp n ⊠ d) ⊠ num 1) (λ n d. num 0 ⊠ (d ⊠ d)) refl a.num (pos a.den)))
-
-pub mul_assoc : (x y z : ℚ) → (x *ℚ y) *ℚ z ≡ x *ℚ (y *ℚ z)
-unfolding ◌*ℚ◌
-mul_assoc = ind₃ (λ x y z. (x *ℚ y) *ℚ z ≡ x *ℚ (y *ℚ z)) (λ x y z. Quot-set _ _)
-    (λ a b c. sound (ring₆ ℤ_ring (λ n d m e k f. ((n ⊠ m) ⊠ k) ⊠ (d ⊠ (e ⊠ f))) (λ n d m e k f. (n ⊠ (m ⊠ k)) ⊠ ((d ⊠ e) ⊠ f)) refl a.num (pos a.den) b.num (pos b.den) c.num (pos c.den)))
-
-pub mul_comm : (x y : ℚ) → x *ℚ y ≡ y *ℚ x
-unfolding ◌*ℚ◌
-mul_comm = ind₂ (λ x y. x *ℚ y ≡ y *ℚ x) (λ x y. Quot-set _ _)
-    (λ a b. sound (ring₄ ℤ_ring (λ n d m e. (n ⊠ m) ⊠ (e ⊠ d)) (λ n d m e. (m ⊠ n) ⊠ (d ⊠ e)) refl a.num (pos a.den) b.num (pos b.den)))
-
-pub mul-one : (x : ℚ) → x *ℚ whole 1 ≡ x
-unfolding ◌*ℚ◌ ◌÷◌
-mul-one = ind₁ (λ x. x *ℚ whole 1 ≡ x) (λ x. Quot-set _ _)
-    (λ a. sound (ring₂ ℤ_ring (λ n d. (n ⊠ num 1) ⊠ d) (λ n d. n ⊠ (d ⊠ num 1)) refl a.num (pos a.den)))
-
-pub mul-add : (x y z : ℚ) → x *ℚ (y +ℚ z) ≡ x *ℚ y +ℚ x *ℚ z
-unfolding ◌+ℚ◌ ◌*ℚ◌
-mul-add = ind₃ (λ x y z. x *ℚ (y +ℚ z) ≡ x *ℚ y +ℚ x *ℚ z) (λ x y z. Quot-set _ _)
-    (λ a b c. sound (ring₆ ℤ_ring
-    (λ n d m e k f. (n ⊠ (m ⊠ f ⊞ k ⊠ e)) ⊠ ((d ⊠ e) ⊠ (d ⊠ f)))
-    (λ n d m e k f. ((n ⊠ m) ⊠ (d ⊠ f) ⊞ (n ⊠ k) ⊠ (d ⊠ e)) ⊠ (d ⊠ (e ⊠ f)))
-    refl a.num (pos a.den) b.num (pos b.den) c.num (pos c.den)))
-
--- whole numbers as fractions keep sums, products and negatives
-pub int-add : (a b : ℤ) → (a +ℤ b) ÷ 1 ≡ a ÷ 1 +ℚ b ÷ 1
-unfolding ◌+ℚ◌ ◌÷◌
-int-add a b = sound (ring₂ ℤ_ring (λ a b. (a ⊞ b) ⊠ num 1) (λ a b. (a ⊠ num 1 ⊞ b ⊠ num 1) ⊠ num 1) refl a b)
-
-pub int-mul : (a b : ℤ) → (a *ℤ b) ÷ 1 ≡ a ÷ 1 *ℚ b ÷ 1
-unfolding ◌*ℚ◌ ◌÷◌
-int-mul a b = sound (ring₂ ℤ_ring (λ a b. (a ⊠ b) ⊠ num 1) (λ a b. (a ⊠ b) ⊠ num 1) refl a b)
-
-pub int-neg : (a : ℤ) → neg_ℤ a ÷ 1 ≡ neg_ℚ (a ÷ 1)
-unfolding neg_ℚ ◌÷◌
-int-neg a = refl
-
-pub int-sub : (a b : ℤ) → (a -ℤ b) ÷ 1 ≡ a ÷ 1 -ℚ b ÷ 1
-int-sub a b = int-add a (neg_ℤ b) ∙ ap (λ t. a ÷ 1 +ℚ t) (int-neg b)
-
-abbrev pub ℚ_ring : CommutativeRing
-ℚ_ring = record {
-  Element = ℚ;
-  whole = whole;
-  add = ◌+ℚ◌;
-  mul = ◌*ℚ◌;
-  neg = neg_ℚ;
-  add_assoc = add_assoc;
-  add_comm = add_comm;
-  add-zero = add-zero;
-  add-neg = add-neg;
-  mul_assoc = mul_assoc;
-  mul_comm = mul_comm;
-  mul-one = mul-one;
-  mul-add = mul-add;
-  whole-add = λ m n. int-add (pos m) (pos n);
-}
-
--- the whole numbers in the fractions
-abbrev pub ℚ_image : Image ℚ_ring
-ℚ_image = record { of = λ a. a ÷ 1; of-pos = λ n. refl; of-add = int-add; of-mul = int-mul; of-neg = int-neg }
+use Rattle.rat_core.specs.Fraction.{ℚ, ◌÷◌, whole, ◌+ℚ◌, ◌*ℚ◌, neg_ℚ, at_most, ◌≤ℚ◌, ◌<ℚ◌}
+pub use Rattle.rat_core.specs.Ring.{ℚ_ring, ℚ_image}
+pub use Rattle.rat_core.specs.RingLaws.{ind₁, ind₂, ind₃, add_assoc, add_comm, add-zero, add-neg, mul_assoc}
+pub use Rattle.rat_core.specs.RingLaws.{mul_comm, mul-one, mul-add, int-add, int-mul, int-neg, int-sub}
 
 -- ---- division
 
@@ -226,7 +133,8 @@ pub add_mono : (z x y : ℚ) → x ≤ℚ y → z +ℚ x ≤ℚ z +ℚ y
 unfolding at_most ◌+ℚ◌
 add_mono = ind₃ (λ z x y. x ≤ℚ y → z +ℚ x ≤ℚ z +ℚ y) (λ z x y. Π_prop (λ _. le_prop (z +ℚ x) (z +ℚ y)))
     (λ c a b h. record {
-      le = (le₆ ℤ_ordered (λ n d m e k f. (k ⊠ d ⊞ n ⊠ f) ⊠ (f ⊠ e)) (λ n d m e k f. (k ⊠ e ⊞ m ⊠ f) ⊠ (f ⊠ d)) (λ n d m e k f. times (f ⊠ f) (n ⊠ e) (m ⊠ d) ∷ []) refl
+      le = (le₆ ℤ_ordered (λ n d m e k f. (k ⊠ d ⊞ n ⊠ f) ⊠ (f ⊠ e)) (λ n d m e k f. (k ⊠ e ⊞ m ⊠ f) ⊠ (f ⊠ d))
+          (λ n d m e k f. times (f ⊠ f) (n ⊠ e) (m ⊠ d) ∷ []) refl
           a.num (pos a.den) b.num (pos b.den) c.num (pos c.den) (pos_le 0 (c.den * c.den) (omega arith), le_z_yes h.le, tt)).le;
     })
 

@@ -5,3 +5,4 @@ pub mod Compare
 pub mod Half
 pub mod Decimals
 pub mod Quotients
+pub mod Sizes

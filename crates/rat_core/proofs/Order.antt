@@ -1,6 +1,7 @@
 -- The order of fractions, sizes, and whole numbers among the fractions. Most inequalities are certificates.
 use mathlib.Core.HLevel.{Π_prop}
-use Rattle.std.proofs.Common.{◌≡◌, refl, ap, ◌∙◌, ℕ, zero, suc, ◌*◌, ◌<◌, ◌≤◌, Bool, true, false, cond, not, T, ℤ, pos, unsigned_abs, ◌*ℤ◌, ◌≤ℤ◌, ◌<ℤ◌, [], ◌∷◌, lit<, arith, mul-pos, zero-lt-suc}
+use Rattle.std.proofs.Common.{◌≡◌, refl, ap, ◌∙◌, ℕ, zero, suc, ◌*◌, ◌<◌, ◌≤◌, Bool, true, false, cond, not, T, ℤ, pos, unsigned_abs, ◌*ℤ◌, ◌≤ℤ◌}
+use Rattle.std.proofs.Common.{◌<ℤ◌, [], ◌∷◌, lit<, arith, mul-pos, zero-lt-suc}
 use Rattle.std.proofs.lemmas.Int.{ints}
 use borrow.Author.Differences.{below_in}
 use Rattle.ring_solver.specs.Expression.{var, num, ◌⊞◌, ◌⊟◌, ◌⊠◌, opp}
@@ -9,7 +10,8 @@ use Rattle.ring_solver.proofs.Solver.{ring₁, ring₂, ring₃, ring_by₂}
 use Rattle.ring_solver.proofs.Certificate.{le₁, le₂, le₄, le₅, moved, add_mono_both}
 use Rattle.ring_solver.proofs.Whole.{pos_le, *ℤ_mono, *ℤ_mono_back, *ℤ_mono_strict, *ℤ_mono_strict_back, ℤ_ring}
 use Rattle.rat_core.specs.Fraction.{ℚ, ◌÷◌, whole, ◌+ℚ◌, ◌-ℚ◌, ◌*ℚ◌, neg_ℚ, at_most, ◌≤ℚ◌, ◌<ℚ◌, abs}
-use Rattle.rat_core.proofs.Laws.{ℚ_ring, ℚ_ordered, of_quotients, le_prop, le_refl, le_trans, le_antisym, lt_le, lt_not_le, le_or_lt, over-mul, over_le, over_le_back, over_lt, over_lt_back, over_same, over-product, mul_nonneg}
+use Rattle.rat_core.proofs.Laws.{ℚ_ring, ℚ_ordered, of_quotients, le_prop, le_refl, le_trans, le_antisym, lt_le, lt_not_le, le_or_lt, over-mul}
+use Rattle.rat_core.proofs.Laws.{over_le, over_le_back, over_lt, over_lt_back, over_same, over-product, mul_nonneg}
 
 -- ---- the strict order
 
@@ -58,7 +60,8 @@ over_positive n d p q = over_lt (pos 0) (pos n) 1 d (lit< tt) q (below_in (pos 0
 -- a whole factor of an equation, and of an order
 pub cancel : (k : ℕ) → 0 < k → (x y : ℚ) → x *ℚ whole k ≡ y *ℚ whole k → x ≡ y
 cancel k p x y h =
-    ring_by₂ ℚ_ring (x ∷ y ∷ whole k ∷ (pos 1 ÷ k) ∷ []) (var 0) (var 1) (var 1 ⊟ var 0) (var 3 ⊠ var 2) (num 1) (var 3) (var 0 ⊠ var 2) (var 1 ⊠ var 2) refl (over-mul (pos 1) k p) h
+    ring_by₂ ℚ_ring (x ∷ y ∷ whole k ∷ (pos 1 ÷ k) ∷ []) (var 0) (var 1) (var 1 ⊟ var 0) (var 3 ⊠ var 2) (num 1) (var 3) (var 0 ⊠ var 2)
+    (var 1 ⊠ var 2) refl (over-mul (pos 1) k p) h
 
 pub cancel_le : (k : ℕ) → 0 < k → (x y : ℚ) → x *ℚ whole k ≤ℚ y *ℚ whole k → x ≤ℚ y
 cancel_le k p x y h =
@@ -86,7 +89,8 @@ over_common n d k p q = over_same (n *ℤ pos k) n (d * k) d (mul-pos p q) p (ri
 pub over_part : (n : ℤ) (c d : ℕ) → 0 < c → 0 < d → n ÷ (c * d) *ℚ whole c ≡ n ÷ d
 over_part n c d p q =
     over-product n (pos c) (c * d) 1 (mul-pos p q) (lit< tt)
-    ∙ over_same (n *ℤ pos c) n (c * d * 1) d (mul-pos (mul-pos p q) (lit< tt)) q (ring₃ ℤ_ring (λ n c d. n ⊠ c ⊠ d) (λ n c d. n ⊠ (c ⊠ d ⊠ num 1)) refl n (pos c) (pos d))
+    ∙ over_same (n *ℤ pos c) n (c * d * 1) d (mul-pos (mul-pos p q) (lit< tt)) q
+    (ring₃ ℤ_ring (λ n c d. n ⊠ c ⊠ d) (λ n c d. n ⊠ (c ⊠ d ⊠ num 1)) refl n (pos c) (pos d))
 
 -- ---- products and negatives
 
@@ -112,14 +116,16 @@ pub le_abs : (x : ℚ) → x ≤ℚ abs x
 le_abs x = abs_cases (λ a. x ≤ℚ a) x (λ h. le_refl x) (λ h. le_trans x (whole 0) (neg_ℚ x) h (neg_nonneg x h))
 
 pub neg_le_abs : (x : ℚ) → neg_ℚ x ≤ℚ abs x
-neg_le_abs x = abs_cases (λ a. neg_ℚ x ≤ℚ a) x (λ h. le₁ ℚ_ordered (λ x. opp x) (λ x. x) (λ x. times (num 2) (num 0) x ∷ []) refl x (whole_nonneg 2, h, tt)) (λ h. le_refl (neg_ℚ x))
+neg_le_abs x = abs_cases (λ a. neg_ℚ x ≤ℚ a) x (λ h. le₁ ℚ_ordered (λ x. opp x) (λ x. x) (λ x. times (num 2) (num 0) x ∷
+    []) refl x (whole_nonneg 2, h, tt)) (λ h. le_refl (neg_ℚ x))
 
 -- a size is at most b where both signs are
 pub abs_le : (x b : ℚ) → x ≤ℚ b → neg_ℚ x ≤ℚ b → abs x ≤ℚ b
 abs_le x b h k = abs_cases (λ a. a ≤ℚ b) x (λ _. h) (λ _. k)
 
 pub abs_of_nonneg : (x : ℚ) → whole 0 ≤ℚ x → abs x ≡ x
-abs_of_nonneg x h = le_antisym (abs x) x (abs_le x x (le_refl x) (le₁ ℚ_ordered (λ x. opp x) (λ x. x) (λ x. times (num 2) (num 0) x ∷ []) refl x (whole_nonneg 2, h, tt))) (le_abs x)
+abs_of_nonneg x h = le_antisym (abs x) x (abs_le x x (le_refl x)
+    (le₁ ℚ_ordered (λ x. opp x) (λ x. x) (λ x. times (num 2) (num 0) x ∷ []) refl x (whole_nonneg 2, h, tt))) (le_abs x)
 
 pub abs-neg : (x : ℚ) → abs (neg_ℚ x) ≡ abs x
 abs-neg x =
@@ -130,7 +136,8 @@ abs-neg x =
 pub abs_add_le : (x y : ℚ) → abs (x +ℚ y) ≤ℚ abs x +ℚ abs y
 abs_add_le x y =
     abs_le (x +ℚ y) (abs x +ℚ abs y) (add_mono_both ℚ_ordered x (abs x) y (abs y) (le_abs x) (le_abs y))
-    (moved ℚ_ordered (ring₂ ℚ_ring (λ x y. opp x ⊞ opp y) (λ x y. opp (x ⊞ y)) refl x y) refl (add_mono_both ℚ_ordered (neg_ℚ x) (abs x) (neg_ℚ y) (abs y) (neg_le_abs x) (neg_le_abs y)))
+    (moved ℚ_ordered (ring₂ ℚ_ring (λ x y. opp x ⊞ opp y) (λ x y. opp (x ⊞ y)) refl x y) refl
+    (add_mono_both ℚ_ordered (neg_ℚ x) (abs x) (neg_ℚ y) (abs y) (neg_le_abs x) (neg_le_abs y)))
 
 pub abs-mul : (x y : ℚ) → abs (x *ℚ y) ≡ abs x *ℚ abs y
 abs-mul x y =
@@ -140,7 +147,8 @@ abs-mul x y =
     (λ k. turned (x *ℚ neg_ℚ y) (ring₂ ℚ_ring (λ x y. x ⊠ y) (λ x y. opp (x ⊠ opp y)) refl x y) (mul_nonneg x (neg_ℚ y) h (neg_nonneg y k))))
     (λ h. abs_cases (λ b. abs (x *ℚ y) ≡ neg_ℚ x *ℚ b) y
     (λ k. turned (neg_ℚ x *ℚ y) (ring₂ ℚ_ring (λ x y. x ⊠ y) (λ x y. opp (opp x ⊠ y)) refl x y) (mul_nonneg (neg_ℚ x) y (neg_nonneg x h) k))
-    (λ k. ap abs (ring₂ ℚ_ring (λ x y. x ⊠ y) (λ x y. opp x ⊠ opp y) refl x y) ∙ abs_of_nonneg (neg_ℚ x *ℚ neg_ℚ y) (mul_nonneg (neg_ℚ x) (neg_ℚ y) (neg_nonneg x h) (neg_nonneg y k))))
+    (λ k. ap abs (ring₂ ℚ_ring (λ x y. x ⊠ y) (λ x y. opp x ⊠ opp y) refl x y)
+    ∙ abs_of_nonneg (neg_ℚ x *ℚ neg_ℚ y) (mul_nonneg (neg_ℚ x) (neg_ℚ y) (neg_nonneg x h) (neg_nonneg y k))))
   where
     turned : (z : ℚ) → x *ℚ y ≡ neg_ℚ z → whole 0 ≤ℚ z → abs (x *ℚ y) ≡ z
     turned z e h = ap abs e ∙ abs-neg z ∙ abs_of_nonneg z h

@@ -12,7 +12,8 @@ use Rattle.ring_solver.proofs.Certificate.{le₁, le₃}
 use Rattle.ring_solver.proofs.Whole.{ℤ_ring, *ℤ-pos_one}
 use Rattle.ring_solver.proofs.Division.{div_euclid_low, div_euclid_high, div_euclid_unique, div_rem_euclid, rem_euclid_below}
 use Rattle.rat_core.specs.Fraction.{ℚ, ◌÷◌, whole, ◌+ℚ◌, ◌-ℚ◌, ◌*ℚ◌, neg_ℚ, ◌≤ℚ◌, ◌<ℚ◌, floor, wrapped}
-use Rattle.rat_core.proofs.Laws.{ℚ_ring, ℚ_ordered, of_quotients, over_at, le_prop, lt_prop, lt_not_le, over_le, over_le_back, over_lt, over_lt_back, int-add, int-mul, int-neg, le_refl, lt_le, over-mul}
+use Rattle.rat_core.proofs.Laws.{ℚ_ring, ℚ_ordered, of_quotients, over_at, le_prop, lt_prop, lt_not_le, over_le, over_le_back, over_lt, over_lt_back}
+use Rattle.rat_core.proofs.Laws.{int-add, int-mul, int-neg, le_refl, lt_le, over-mul}
 use Rattle.rat_core.proofs.Order.{lt_of_not_le, over_nonneg, difference_nonneg, whole_lt, whole_nonneg, cancel}
 
 pub floor-over : (n : ℤ) (d : ℕ) → 0 < d → floor (n ÷ d) ≡ int_div_euclid n (pos d)
@@ -22,7 +23,8 @@ floor-over n d p = ap floor (sym (over_at n d p))
 pub floor_low : (x : ℚ) → floor x ÷ 1 ≤ℚ x
 floor_low =
     of_quotients (λ x. floor x ÷ 1 ≤ℚ x) (λ x. le_prop (floor x ÷ 1) x)
-    (λ n d p. rw (floor-over n d p) (over_le (int_div_euclid n (pos d)) n 1 d (lit< tt) p (subst (λ t. (int_div_euclid n (pos d) *ℤ pos d) ≤ℤ t) (sym (*ℤ-pos_one n)) (div_euclid_low n d p))))
+    (λ n d p. rw (floor-over n d p) (over_le (int_div_euclid n (pos d)) n 1 d (lit< tt) p
+    (subst (λ t. (int_div_euclid n (pos d) *ℤ pos d) ≤ℤ t) (sym (*ℤ-pos_one n)) (div_euclid_low n d p))))
 
 -- n / d < k + 1 by whole numbers
 below_next : (n k : ℤ) (d : ℕ) → (k +ℤ pos 1) *ℤ pos d ≡ k *ℤ pos d +ℤ pos d
@@ -91,7 +93,8 @@ pub wrapped-half_low : (x : ℚ) → wrapped x <ℚ whole 1 → wrapped (x +ℚ 
 wrapped-half_low x h =
     wrapped_is (x +ℚ whole 1) (wrapped x +ℚ whole 1) (turns x) (ring₂ ℚ_ring (λ x f. x ⊞ num 1 ⊟ num 2 ⊠ f) (λ x f. x ⊟ num 2 ⊠ f ⊞ num 1) refl x (turns x ÷ 1))
     (le₁ ℚ_ordered (λ w. num 0) (λ w. w ⊞ num 1) (λ w. le (num 0) w ∷ le (num 0) (num 1) ∷ []) refl (wrapped x) (wrapped_low x, (whole_nonneg 1, tt)))
-    (lt_of_not_le (whole 2) (wrapped x +ℚ whole 1) (λ l. lt_not_le (wrapped x) (whole 1) h (le₁ ℚ_ordered (λ w. num 1) (λ w. w) (λ w. le (num 2) (w ⊞ num 1) ∷ []) refl (wrapped x) (l, tt))))
+    (lt_of_not_le (whole 2) (wrapped x +ℚ whole 1) (λ l. lt_not_le (wrapped x) (whole 1) h (le₁ ℚ_ordered (λ w. num 1) (λ w. w)
+    (λ w. le (num 2) (w ⊞ num 1) ∷ []) refl (wrapped x) (l, tt))))
 
 pub wrapped-half_high : (x : ℚ) → whole 1 ≤ℚ wrapped x → wrapped (x +ℚ whole 1) ≡ wrapped x -ℚ whole 1
 wrapped-half_high x h =
@@ -134,7 +137,8 @@ wrapped-over n d p = wrapped_is (n ÷ d) (r ÷ d) k e low high
     low = subst (λ t. whole 0 ≤ℚ t ÷ d) (sym below.1) (over_nonneg below.0 d)
 
     high : r ÷ d <ℚ whole 2
-    high = subst (λ t. t ÷ d <ℚ whole 2) (sym below.1) (over_lt (pos below.0) (pos 2) d 1 p (lit< tt) (below_in (pos below.0 *ℤ pos 1) (pos 2 *ℤ pos d) (let l = below.2 in omega arith)))
+    high = subst (λ t. t ÷ d <ℚ whole 2) (sym below.1) (over_lt (pos below.0) (pos 2) d 1 p (lit< tt)
+        (below_in (pos below.0 *ℤ pos 1) (pos 2 *ℤ pos d) (let l = below.2 in omega arith)))
 
 -- the negative of a fraction lies at the mirror image in the turn, or at 0 with it
 pub wrapped-neg_inside : (x : ℚ) → whole 0 <ℚ wrapped x → wrapped (neg_ℚ x) ≡ whole 2 -ℚ wrapped x
@@ -143,7 +147,8 @@ wrapped-neg_inside x p =
     (ap (λ t. neg_ℚ x -ℚ whole 2 *ℚ t) (int-neg (turns x +ℤ pos 1) ∙ ap neg_ℚ (int-add (turns x) (pos 1)))
     ∙ ring₂ ℚ_ring (λ x f. opp x ⊟ num 2 ⊠ opp (f ⊞ num 1)) (λ x f. num 2 ⊟ (x ⊟ num 2 ⊠ f)) refl x (turns x ÷ 1))
     (difference_nonneg (wrapped x) (whole 2) (lt_le (wrapped x) (whole 2) (wrapped_high x)))
-    (lt_of_not_le (whole 2) (whole 2 -ℚ wrapped x) (λ l. lt_not_le (whole 0) (wrapped x) p (le₁ ℚ_ordered (λ w. w) (λ w. num 0) (λ w. le (num 2) (num 2 ⊟ w) ∷ []) refl (wrapped x) (l, tt))))
+    (lt_of_not_le (whole 2) (whole 2 -ℚ wrapped x) (λ l. lt_not_le (whole 0) (wrapped x) p (le₁ ℚ_ordered (λ w. w) (λ w. num 0)
+    (λ w. le (num 2) (num 2 ⊟ w) ∷ []) refl (wrapped x) (l, tt))))
 
 pub wrapped-neg_zero : (x : ℚ) → wrapped x ≡ whole 0 → wrapped (neg_ℚ x) ≡ whole 0
 wrapped-neg_zero x z =

@@ -38,8 +38,10 @@ kept : (a a' b b' : Ratio) → IsSame a a' → IsSame b b' → T (is_at_most a b
 kept a a' b b' h k t =
     let order : (a'.num *ℤ pos b'.den) ≤ℤ (b'.num *ℤ pos a'.den) =
     *ℤ_mono_back (a'.num *ℤ pos b'.den) (b'.num *ℤ pos a'.den) (a.den * b.den) (mul-pos a.den_pos b.den_pos)
-    (certified ℤ_ordered (a.num ∷ pos a.den ∷ a'.num ∷ pos a'.den ∷ b.num ∷ pos b.den ∷ b'.num ∷ pos b'.den ∷ []) ((var 2 ⊠ var 7) ⊠ (var 1 ⊠ var 5)) ((var 6 ⊠ var 3) ⊠ (var 1 ⊠ var 5))
-    (times (var 3 ⊠ var 7) (var 0 ⊠ var 5) (var 4 ⊠ var 1) ∷ same (var 5 ⊠ var 7) (var 2 ⊠ var 1) (var 0 ⊠ var 3) ∷ same (var 1 ⊠ var 3) (var 4 ⊠ var 7) (var 6 ⊠ var 5) ∷ []) refl
+    (certified ℤ_ordered (a.num ∷ pos a.den ∷ a'.num ∷ pos a'.den ∷ b.num ∷ pos b.den ∷ b'.num ∷ pos b'.den ∷ []) ((var 2 ⊠ var 7) ⊠ (var 1 ⊠ var 5))
+    ((var 6 ⊠ var 3) ⊠ (var 1 ⊠ var 5))
+    (times (var 3 ⊠ var 7) (var 0 ⊠ var 5) (var 4 ⊠ var 1) ∷ same (var 5 ⊠ var 7) (var 2 ⊠ var 1) (var 0 ⊠ var 3) ∷ same (var 1 ⊠ var 3)
+    (var 4 ⊠ var 7) (var 6 ⊠ var 5) ∷ []) refl
     (pos_le 0 (a'.den * b'.den) (omega arith), le_z_yes t, (sym h, (k, tt)))) in
     order.le
 

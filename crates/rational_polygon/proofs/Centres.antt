@@ -36,8 +36,10 @@ near_middle i level x low high =
     let middle = dyadic (2 * i + 1) (level + 1) in
     let half = dyadic 1 (level + 1) in
     abs_le (middle -ℚ x) half
-    (le₄ ℚ_ordered (λ a c h x. c ⊟ x) (λ a c h x. h) (λ a c h x. le a x ∷ same (num 1) c (a ⊞ h) ∷ []) refl (dyadic (i + 0) level) middle half x (low, (from_start i level, tt)))
-    (le₄ ℚ_ordered (λ b c h x. opp (c ⊟ x)) (λ b c h x. h) (λ b c h x. le x b ∷ same (num 1) b (c ⊞ h) ∷ []) refl (dyadic (i + 1) level) middle half x (high, (from_end i level, tt)))
+    (le₄ ℚ_ordered (λ a c h x. c ⊟ x) (λ a c h x. h) (λ a c h x. le a x ∷ same (num 1) c (a ⊞ h) ∷ []) refl (dyadic (i + 0) level) middle half x
+    (low, (from_start i level, tt)))
+    (le₄ ℚ_ordered (λ b c h x. opp (c ⊟ x)) (λ b c h x. h) (λ b c h x. le x b ∷ same (num 1) b (c ⊞ h) ∷ []) refl
+    (dyadic (i + 1) level) middle half x (high, (from_end i level, tt)))
 
 -- a point of a box differs from the centre by at most half the side in each coordinate
 pub near_centre : (box : Square) (p : Point) → IsInBox box p → (abs ((centre box).x -ℚ p.x) ≤ℚ half_side box) × (abs ((centre box).y -ℚ p.y) ≤ℚ half_side box)

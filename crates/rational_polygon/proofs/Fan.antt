@@ -26,7 +26,8 @@ orientation_of ax ay bx by px py = (bx ⊟ ax) ⊠ (py ⊟ ay) ⊟ (by ⊟ ay) �
 one_side : (a b p : Point) → IsOnOrLeft a b p ⊎ IsOnOrLeft b a p
 one_side a b p =
     le_or_lt (whole 0) (orientation a b p) (λ h. inl h)
-    (λ h. inr (le₆ ℚ_ordered (λ ax ay bx by px py. num 0) (λ ax ay bx by px py. orientation_of bx by ax ay px py) (λ ax ay bx by px py. le (orientation_of ax ay bx by px py) (num 0) ∷ []) refl
+    (λ h. inr (le₆ ℚ_ordered (λ ax ay bx by px py. num 0) (λ ax ay bx by px py. orientation_of bx by ax ay px py)
+    (λ ax ay bx by px py. le (orientation_of ax ay bx by px py) (num 0) ∷ []) refl
     a.x a.y b.x b.y p.x p.y (lt_le (orientation a b p) (whole 0) h, tt)))
 
 -- in a triangle, u·x + v·y is at most s where it is at the three corners: the weight of a corner is the triangle of the point and the other two
@@ -43,10 +44,15 @@ linear_in_triangle u v a b c p s strict ab bc ca at_a at_b at_c =
     ∷ []) refl (bc, at_a, (ca, at_b, (ab, at_c, tt))))
 
 -- where each number has P or Q, the first has P and the last Q, one with P is followed by one with Q
-crossing : (P Q : ℕ → Type 0) → ((i : ℕ) → P i ⊎ Q i) → (last first k : ℕ) → first + 1 + k ≡ last → P first → Q last → (i : ℕ) × (first ≤ i) × (i < last) × P i × Q (i + 1)
+crossing : (P Q : ℕ → Type 0) → ((i : ℕ) → P i ⊎ Q i) → (last first k : ℕ) → first + 1 + k ≡ last → P first → Q last → (i : ℕ) × (first ≤ i)
+    × (i < last) × P i × Q (i + 1)
 crossing P Q either last first zero e p q = let is : last ≡ first + 1 = omega arith in (first, omega arith, omega arith, p, subst Q is q)
 crossing P Q either last first (suc k) e p q =
-    elim (either (first + 1)) [ inl h ↦ let r = crossing P Q either last (first + 1) k (omega arith) h q in (r.0, omega arith, omega arith, r.3, r.4) | inr h ↦ (first, omega arith, omega arith, p, h) ]
+    elim (either (first + 1)) [
+      | inl h ↦ let r = crossing P Q either last (first + 1) k (omega arith) h q in
+          (r.0, omega arith, omega arith, r.3, r.4)
+      | inr h ↦ (first, omega arith, omega arith, p, h)
+    ]
 
 -- the corner that follows
 next_within : (outline : Outline) (k : ℕ) → k < length outline.corners → next outline k ≡ k + 1
@@ -94,7 +100,8 @@ least_up_to f (suc m) =
     (λ h. (
       suc m,
       omega arith,
-      λ i below. up_to m i (λ t. f (suc m) ≤ℚ f t) below (λ l. le_trans (f (suc m)) (f k) (f i) (lt_le (f (suc m)) (f k) h) (earlier.2 i l)) (le_refl (f (suc m))),
+      λ i below. up_to m i (λ t. f (suc m) ≤ℚ f t) below (λ l. le_trans (f (suc m)) (f k) (f i) (lt_le (f (suc m)) (f k) h) (earlier.2 i l))
+          (le_refl (f (suc m))),
     ))
   where
     up_to : (m i : ℕ) (P : ℕ → Type 0) → i ≤ suc m → (i ≤ m → P i) → P (suc m) → P i
@@ -182,8 +189,10 @@ point_is_triangle outline p polygon within =
     let b = within.rectangle.below in
     let lower = grid - 1 in
     record {
-      first = let i = at_found (IsInside grid) _ outline.corners polygon.inside l in lt_le_trans (whole 0) (pos l.1.0 ÷ grid) p.x (over_positive l.1.0 grid (omega (arith, i)) g) l.4;
-      second = let i = at_found (IsInside grid) _ outline.corners polygon.inside b in lt_le_trans (whole 0) (pos b.1.1 ÷ grid) p.y (over_positive b.1.1 grid (omega (arith, i)) g) b.4;
+      first = let i = at_found (IsInside grid) _ outline.corners polygon.inside l in lt_le_trans (whole 0) (pos l.1.0 ÷ grid) p.x
+          (over_positive l.1.0 grid (omega (arith, i)) g) l.4;
+      second = let i = at_found (IsInside grid) _ outline.corners polygon.inside b in lt_le_trans (whole 0) (pos b.1.1 ÷ grid) p.y
+          (over_positive b.1.1 grid (omega (arith, i)) g) b.4;
       third = le_lt_trans (p.x +ℚ p.y) (pos lower ÷ grid) (whole 1) (subst (λ t. t ≤ℚ pos lower ÷ grid) (sum_is p)
           (linear_in_polygon (whole 1) (whole 1) outline p (pos lower ÷ grid) polygon within.edges
           (λ k number. subst (λ t. t ≤ℚ pos lower ÷ grid) (sym (sum_is (corner outline k))) (at_corner k number)))) (over_below_one lower grid g (omega arith));

@@ -55,25 +55,35 @@ by_equality : {P : Type 0} (m n : ℕ) → (m ≡ n → P) → ((m ≡ n → ⊥
 by_equality m n f g = elim (eqb_tells m n) [ inl h ↦ f h.1 | inr h ↦ g h.1 ]
 
 -- each corner is on or left of each edge
-corner_on_or_left : (outline : Outline) (i j : ℕ) → IsPolygon outline → IsNumber outline i → IsNumber outline j → IsOnOrLeft (corner outline i) (corner outline (next outline i)) (corner outline j)
+corner_on_or_left : (outline : Outline) (i j : ℕ) → IsPolygon outline → IsNumber outline i → IsNumber outline j
+    → IsOnOrLeft (corner outline i) (corner outline (next outline i)) (corner outline j)
 corner_on_or_left outline i j polygon edge number =
     let a = corner outline i in
     let b = corner outline (next outline i) in
     by_equality j i (λ e. subst (λ t. IsOnOrLeft a b (corner outline t)) (sym e) (on_line (orientation a b a) (orientation_at_start a b)))
-    (λ start. by_equality j (next outline i) (λ e. subst (λ t. IsOnOrLeft a b (corner outline t)) (sym e) (on_line (orientation a b b) (orientation_at_end a b)))
+    (λ start. by_equality j (next outline i) (λ e. subst (λ t. IsOnOrLeft a b (corner outline t)) (sym e)
+    (on_line (orientation a b b) (orientation_at_end a b)))
     (λ end. lt_le (whole 0) (orientation a b (corner outline j)) (polygon.convex i j edge number start end)))
 
 -- each corner is a triangle and a point of the polygon
-pub corner_is_point : (outline : Outline) (k : ℕ) → IsPolygon outline → IsNumber outline k → IsTriangle (corner outline k) × IsInPolygon outline (corner outline k)
+pub corner_is_point : (outline : Outline) (k : ℕ) → IsPolygon outline → IsNumber outline k → IsTriangle (corner outline k)
+    × IsInPolygon outline (corner outline k)
 corner_is_point outline k polygon number =
     let c = slice_index_or outline.corners (k - 1) (0, 0) in
     let lt : k - 1 < length outline.corners = omega (arith, number) in
     let is = get_or_default outline.corners (k - 1) c (0, 0) lt in
     let x = (corner outline k).x in
     let y = (corner outline k).y in (
-      inside_is_triangle outline.grid c (omega (arith, polygon.grid.0)) (by_number (IsInside outline.grid) outline.corners (0, 0) polygon.inside k number.at_least number.at_most),
+      inside_is_triangle outline.grid c (omega (arith, polygon.grid.0))
+          (by_number (IsInside outline.grid) outline.corners (0, 0) polygon.inside k number.at_least number.at_most),
       record {
-        rectangle = record { left = (k - 1, c, lt, is, le_refl x); right = (k - 1, c, lt, is, le_refl x); below = (k - 1, c, lt, is, le_refl y); above = (k - 1, c, lt, is, le_refl y) };
+        rectangle = record {
+          left = (k - 1, c, lt, is, le_refl x);
+          right = (k - 1, c, lt, is, le_refl x);
+          below =
+              (k - 1, c, lt, is, le_refl y);
+          above = (k - 1, c, lt, is, le_refl y);
+        };
         edges = λ i edge. corner_on_or_left outline i k polygon edge number;
       },
     )

@@ -23,15 +23,23 @@ finer_below m n level h =
     (pos_le (n * 2 ^ level) (m * 2 ^ (level + 1)) (rw (pow_more 2 level) (omega (arith, mul-le-mul_right (2 ^ level) h))))
 
 -- a point of a stretch lies in one of its halves
-half_of : (i level : ℕ) (x : ℚ) → dyadic (i + 0) level ≤ℚ x → x ≤ℚ dyadic (i + 1) level → (a : ℕ) × (a ≤ 1) × (dyadic (2 * i + a + 0) (level + 1) ≤ℚ x) × (x ≤ℚ dyadic (2 * i + a + 1) (level + 1))
+half_of : (i level : ℕ) (x : ℚ) → dyadic (i + 0) level ≤ℚ x → x ≤ℚ dyadic (i + 1) level → (a : ℕ) × (a ≤ 1)
+    × (dyadic (2 * i + a + 0) (level + 1) ≤ℚ x) × (x ≤ℚ dyadic (2 * i + a + 1) (level + 1))
 half_of i level x low high =
     let middle = dyadic (2 * i + 0 + 1) (level + 1) in
     le_or_lt x middle
-    (λ h. (0, omega arith, le_trans (dyadic (2 * i + 0 + 0) (level + 1)) (dyadic (i + 0) level) x (finer_below (i + 0) (2 * i + 0 + 0) level (omega arith)) low, h))
+    (λ h. (
+      0,
+      omega arith,
+      le_trans (dyadic (2 * i + 0 + 0) (level + 1)) (dyadic (i + 0) level) x
+          (finer_below (i + 0) (2 * i + 0 + 0) level (omega arith)) low,
+      h,
+    ))
     (λ h. (
       1,
       omega arith,
-      le_trans (dyadic (2 * i + 1 + 0) (level + 1)) middle x (over_mono (2 * i + 1 + 0) (2 * i + 0 + 1) (2 ^ (level + 1)) (pow_pos (level + 1)) (omega arith)) (lt_le middle x h),
+      le_trans (dyadic (2 * i + 1 + 0) (level + 1)) middle x
+          (over_mono (2 * i + 1 + 0) (2 * i + 0 + 1) (2 ^ (level + 1)) (pow_pos (level + 1)) (omega arith)) (lt_le middle x h),
       le_trans x (dyadic (i + 1) level) (dyadic (2 * i + 1 + 1) (level + 1)) high (finer_above (i + 1) (2 * i + 1 + 1) level (omega arith)),
     ))
 

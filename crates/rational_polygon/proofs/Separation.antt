@@ -23,7 +23,8 @@ gap_below f cs s t all found h =
     lt_not_le (f found.1) t (at_found (λ c. f c <ℚ t) (λ c. s ≤ℚ f c) cs all found) (le_trans t s (f found.1) h found.4)
 
 -- a step along which the orientation does not fall
-orientation_grows : (a b p q : Point) → whole 0 ≤ℚ (b.x -ℚ a.x) *ℚ (q.y -ℚ p.y) → whole 0 ≤ℚ neg_ℚ (b.y -ℚ a.y) *ℚ (q.x -ℚ p.x) → orientation a b p ≤ℚ orientation a b q
+orientation_grows : (a b p q : Point) → whole 0 ≤ℚ (b.x -ℚ a.x) *ℚ (q.y -ℚ p.y) → whole 0 ≤ℚ neg_ℚ (b.y -ℚ a.y) *ℚ (q.x -ℚ p.x)
+    → orientation a b p ≤ℚ orientation a b q
 orientation_grows a b p q h k =
     certified ℚ_ordered ((b.x -ℚ a.x) ∷ (b.y -ℚ a.y) ∷ a.x ∷ a.y ∷ p.x ∷ p.y ∷ q.x ∷ q.y ∷ [])
     (var 0 ⊠ (var 5 ⊟ var 3) ⊟ var 1 ⊠ (var 4 ⊟ var 2)) (var 0 ⊠ (var 7 ⊟ var 3) ⊟ var 1 ⊠ (var 6 ⊟ var 2))
@@ -40,12 +41,14 @@ farther f u s low high =
     negated u x y h = le₃ ℚ_ordered (λ u x y. num 0) (λ u x y. u ⊠ (x ⊟ y)) (λ u x y. le (num 0) (opp u ⊠ (y ⊟ x)) ∷ []) refl u x y (h, tt)
 
 -- some corner of a box is at least as far left of an edge as a point of the box
-right_of_edge : (a b : Point) (box : Square) (p : Point) → ((i j : ℕ) → i ≤ 1 → j ≤ 1 → orientation a b (box_corner box i j) <ℚ whole 0) → IsInBox box p → whole 0 ≤ℚ orientation a b p → ⊥
+right_of_edge : (a b : Point) (box : Square) (p : Point) → ((i j : ℕ) → i ≤ 1 → j ≤ 1 → orientation a b (box_corner box i j) <ℚ whole 0)
+    → IsInBox box p → whole 0 ≤ℚ orientation a b p → ⊥
 right_of_edge a b box p right within left =
     let up = farther (λ n. dyadic (box.j + n) box.level) (b.x -ℚ a.x) p.y within.below within.above in
     let across = farther (λ n. dyadic (box.i + n) box.level) (neg_ℚ (b.y -ℚ a.y)) p.x within.left within.right in
     let q = box_corner box across.0 up.0 in
-    lt_not_le (orientation a b q) (whole 0) (right across.0 up.0 across.1 up.1) (le_trans (whole 0) (orientation a b p) (orientation a b q) left (orientation_grows a b p q up.2 across.2))
+    lt_not_le (orientation a b q) (whole 0) (right across.0 up.0 across.1 up.1)
+    (le_trans (whole 0) (orientation a b p) (orientation a b q) left (orientation_grows a b p q up.2 across.2))
 
 -- no point is of the polygon and in a box that is apart from it
 pub apart_has_none : (box : Square) (outline : Outline) (p : Point) → IsApart box outline → IsInPolygon outline p → IsInBox box p → ⊥

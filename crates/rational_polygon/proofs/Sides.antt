@@ -1,5 +1,6 @@
 -- On which side of an edge between grid points a point lies, by whole numbers.
-use Rattle.std.proofs.Common.{◌≡◌, refl, sym, ap, ap₂, ◌∙◌, ℕ, ◌*◌, ◌<◌, Bool, true, false, not, T, cond, [], ◌∷◌, ℤ, pos, ◌-ℤ◌, ◌*ℤ◌, ◌<ℤ◌, Ordering, Less, Equal, Greater, int_cmp, arith, mul-pos, lt→ltb}
+use Rattle.std.proofs.Common.{◌≡◌, refl, sym, ap, ap₂, ◌∙◌, ℕ, ◌*◌, ◌<◌, Bool, true, false, not, T, cond, [], ◌∷◌, ℤ, pos, ◌-ℤ◌, ◌*ℤ◌, ◌<ℤ◌, Ordering}
+use Rattle.std.proofs.Common.{Less, Equal, Greater, int_cmp, arith, mul-pos, lt→ltb}
 use Rattle.std.specs.Prelude.{◌↔◌, IsTrue}
 use Rattle.std.specs.Ordering.{is_lt}
 use Rattle.std.proofs.Math.IntN.{zero-*ℤ}
@@ -20,7 +21,9 @@ abbrev pub product_at : ℕ → ℕ → ℕ → ℕ → ℤ → ℕ → ℕ → 
 product_at grid from to at n d e = (pos to -ℤ pos from) *ℤ (pos grid *ℤ n -ℤ pos at *ℤ pos d) *ℤ pos e
 
 -- the orientation, over one denominator
-orientation_is : (grid : ℕ) (a b : ℕ × ℕ) (n m : ℤ) (d e : ℕ) → 0 < grid → 0 < d → 0 < e → orientation (grid_point grid a) (grid_point grid b) (record { x = n ÷ d; y = m ÷ e }) ≡ (product_at grid a.0 b.0 a.1 m e d -ℤ product_at grid a.1 b.1 a.0 n d e) ÷ (grid * grid * (d * e))
+orientation_is : (grid : ℕ) (a b : ℕ × ℕ) (n m : ℤ) (d e : ℕ) → 0 < grid → 0 < d → 0 < e
+    → orientation (grid_point grid a) (grid_point grid b) (record { x = n ÷ d; y = m ÷ e })
+    ≡ (product_at grid a.0 b.0 a.1 m e d -ℤ product_at grid a.1 b.1 a.0 n d e) ÷ (grid * grid * (d * e))
 orientation_is grid a b n m d e p q r =
     let run = pos b.0 -ℤ pos a.0 in
     let rise = pos b.1 -ℤ pos a.1 in
@@ -34,11 +37,14 @@ orientation_is grid a b n m d e p q r =
     (ap₂ ◌*ℚ◌ (over-sub_same (pos b.0) (pos a.0) grid p) (over-sub m (pos a.1) e grid r p) ∙ over-product run up grid (e * grid) p eg)
     (ap₂ ◌*ℚ◌ (over-sub_same (pos b.1) (pos a.1) grid p) (over-sub n (pos a.0) d grid q p) ∙ over-product rise across grid (d * grid) p dg)
     ∙ over-sub (run *ℤ up) (rise *ℤ across) (grid * (e * grid)) (grid * (d * grid)) geg gdg
-    ∙ over_same ((run *ℤ up) *ℤ pos (grid * (d * grid)) -ℤ (rise *ℤ across) *ℤ pos (grid * (e * grid))) (product_at grid a.0 b.0 a.1 m e d -ℤ product_at grid a.1 b.1 a.0 n d e)
+    ∙ over_same ((run *ℤ up) *ℤ pos (grid * (d * grid)) -ℤ (rise *ℤ across) *ℤ pos (grid * (e * grid)))
+    (product_at grid a.0 b.0 a.1 m e d -ℤ product_at grid a.1 b.1 a.0 n d e)
     (grid * (e * grid) * (grid * (d * grid))) (grid * grid * (d * e)) (mul-pos geg gdg) (mul-pos (mul-pos p p) (mul-pos q r))
     (ring ℤ_ring (run ∷ rise ∷ n ∷ m ∷ pos d ∷ pos e ∷ pos grid ∷ pos a.0 ∷ pos a.1 ∷ [])
-    (((var 0 ⊠ (var 3 ⊠ var 6 ⊟ var 8 ⊠ var 5)) ⊠ (var 6 ⊠ (var 4 ⊠ var 6)) ⊟ (var 1 ⊠ (var 2 ⊠ var 6 ⊟ var 7 ⊠ var 4)) ⊠ (var 6 ⊠ (var 5 ⊠ var 6))) ⊠ (var 6 ⊠ var 6 ⊠ (var 4 ⊠ var 5)))
-    (((var 0 ⊠ (var 6 ⊠ var 3 ⊟ var 8 ⊠ var 5)) ⊠ var 4 ⊟ (var 1 ⊠ (var 6 ⊠ var 2 ⊟ var 7 ⊠ var 4)) ⊠ var 5) ⊠ (var 6 ⊠ (var 5 ⊠ var 6) ⊠ (var 6 ⊠ (var 4 ⊠ var 6))))
+    (((var 0 ⊠ (var 3 ⊠ var 6 ⊟ var 8 ⊠ var 5)) ⊠ (var 6 ⊠ (var 4 ⊠ var 6)) ⊟ (var 1 ⊠ (var 2 ⊠ var 6 ⊟ var 7 ⊠ var 4)) ⊠
+    (var 6 ⊠ (var 5 ⊠ var 6))) ⊠ (var 6 ⊠ var 6 ⊠ (var 4 ⊠ var 5)))
+    (((var 0 ⊠ (var 6 ⊠ var 3 ⊟ var 8 ⊠ var 5)) ⊠ var 4 ⊟ (var 1 ⊠ (var 6 ⊠ var 2 ⊟ var 7 ⊠ var 4)) ⊠ var 5) ⊠
+    (var 6 ⊠ (var 5 ⊠ var 6) ⊠ (var 6 ⊠ (var 4 ⊠ var 6))))
     refl)
 
 -- the order of two numbers is that of their difference and 0
@@ -54,7 +60,9 @@ positive : (n : ℕ) → 0 < n → pos 0 <ℤ pos n
 positive n p = record { lt = lt→ltb 0 n p }
 
 -- the order of the two products is that of the orientation and 0
-pub int_cmp-products : (grid : ℕ) (a b : ℕ × ℕ) (n m : ℤ) (d e : ℕ) → 0 < grid → 0 < d → 0 < e → int_cmp (product_at grid a.0 b.0 a.1 m e d) (product_at grid a.1 b.1 a.0 n d e) ≡ order_of (orientation (grid_point grid a) (grid_point grid b) (record { x = n ÷ d; y = m ÷ e })) (whole 0)
+pub int_cmp-products : (grid : ℕ) (a b : ℕ × ℕ) (n m : ℤ) (d e : ℕ) → 0 < grid → 0 < d → 0 < e
+    → int_cmp (product_at grid a.0 b.0 a.1 m e d) (product_at grid a.1 b.1 a.0 n d e)
+    ≡ order_of (orientation (grid_point grid a) (grid_point grid b) (record { x = n ÷ d; y = m ÷ e })) (whole 0)
 int_cmp-products grid a b n m d e p q r =
     let l = product_at grid a.0 b.0 a.1 m e d in
     let s = product_at grid a.1 b.1 a.0 n d e in

@@ -1,5 +1,6 @@
 -- Boxes that are apart from a polygon: a line on which an edge or a side of the bounding rectangle lies separates them.
--- Source: the theorem of the separating axis, as in Stefan Gottschalk, Ming Lin and Dinesh Manocha, OBBTree, SIGGRAPH 1996. Which lines are tried is this program's own.
+-- Source: the theorem of the separating axis, as in Stefan Gottschalk, Ming Lin and Dinesh Manocha, OBBTree, SIGGRAPH 1996. Which lines are tried is
+-- this program's own.
 
 use Rattle.std.specs.Prelude.{ℕ, ◌≤◌, ◌⊎◌, All}
 use Rattle.rat_core.specs.Fraction.{◌<ℚ◌}

@@ -28,7 +28,8 @@ ChildrenLieWithin = (box : Square) (p : Point) (c : ℕ) → c < 4 → IsInBox (
 
 -- each corner of a polygon is a triangle, and a point of the polygon
 abbrev pub CornersAreTriangles : Type 0
-CornersAreTriangles = (outline : Outline) (k : ℕ) → IsPolygon outline → IsNumber outline k → IsTriangle (corner outline k) × IsInPolygon outline (corner outline k)
+CornersAreTriangles = (outline : Outline) (k : ℕ) → IsPolygon outline → IsNumber outline k → IsTriangle (corner outline k)
+    × IsInPolygon outline (corner outline k)
 
 -- every point of a polygon is a triangle
 abbrev pub PointsAreTriangles : Type 0

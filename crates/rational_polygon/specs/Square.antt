@@ -1,5 +1,6 @@
 -- The boxes of the quadtree over the unit square, and the points in them.
--- Source: Raphael Finkel and Jon Bentley, Quad Trees: A Data Structure for Retrieval on Composite Keys, Acta Informatica 4 (1974). The greatest level and the order of the children are this program's own.
+-- Source: Raphael Finkel and Jon Bentley, Quad Trees: A Data Structure for Retrieval on Composite Keys, Acta Informatica 4 (1974). The greatest level
+-- and the order of the children are this program's own.
 
 use Rattle.std.specs.Prelude.{ℕ, ◌+◌, ◌*◌, ◌/◌, ◌%◌, ◌^◌, ◌<◌, ◌≤◌, pos}
 use Rattle.rat_core.specs.Fraction.{ℚ, ◌÷◌, ◌≤ℚ◌}

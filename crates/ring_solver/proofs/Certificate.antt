@@ -45,7 +45,8 @@ module _ (O : OrderedRing) where
         add_mono_both (evaluate O.ring ρ (k ⊠ a)) (evaluate O.ring ρ (k ⊠ b)) (evaluate O.ring ρ (smaller s)) (evaluate O.ring ρ (larger s))
         (at_most_of_same (ap (O.ring.mul (evaluate O.ring ρ k)) h.0)) (smaller_at_most s h.1)
 
-    pub certified : (l r : Expression) (s : List Step) → Alike (l ⊞ larger s) (r ⊞ smaller s) → Holds O ρ s → O.AtMost (evaluate O.ring ρ l) (evaluate O.ring ρ r)
+    pub certified : (l r : Expression) (s : List Step) → Alike (l ⊞ larger s) (r ⊞ smaller s) → Holds O ρ s
+        → O.AtMost (evaluate O.ring ρ l) (evaluate O.ring ρ r)
     certified l r s e h =
         let L = evaluate O.ring ρ l in
         let R = evaluate O.ring ρ r in
@@ -56,20 +57,48 @@ module _ (O : OrderedRing) where
         (at_most_of_same (O.ring.add_comm b L ∙ ring O.ring ρ (l ⊞ larger s) (r ⊞ smaller s) e))
         (moved refl (O.ring.add_comm R b) (O.add_mono R a b (smaller_at_most s h))))
 
-  pub le₁ : (l r : Expression → Expression) (s : Expression → List Step) → Alike (l (var 0) ⊞ larger (s (var 0))) (r (var 0) ⊞ smaller (s (var 0))) → (x : O.ring.Element) → Holds O (x ∷ []) (s (var 0)) → O.AtMost (evaluate O.ring (x ∷ []) (l (var 0))) (evaluate O.ring (x ∷ []) (r (var 0)))
+  pub le₁ : (l r : Expression → Expression) (s : Expression → List Step) → Alike (l (var 0) ⊞ larger (s (var 0))) (r (var 0) ⊞ smaller (s (var 0)))
+      → (x : O.ring.Element) → Holds O (x ∷ []) (s (var 0)) → O.AtMost (evaluate O.ring (x ∷ []) (l (var 0))) (evaluate O.ring (x ∷ []) (r (var 0)))
   le₁ l r s e x = certified (x ∷ []) (l (var 0)) (r (var 0)) (s (var 0)) e
 
-  pub le₂ : (l r : Expression → Expression → Expression) (s : Expression → Expression → List Step) → Alike (l (var 0) (var 1) ⊞ larger (s (var 0) (var 1))) (r (var 0) (var 1) ⊞ smaller (s (var 0) (var 1))) → (x y : O.ring.Element) → Holds O (x ∷ y ∷ []) (s (var 0) (var 1)) → O.AtMost (evaluate O.ring (x ∷ y ∷ []) (l (var 0) (var 1))) (evaluate O.ring (x ∷ y ∷ []) (r (var 0) (var 1)))
+  pub le₂ : (l r : Expression → Expression → Expression) (s : Expression → Expression → List Step)
+      → Alike (l (var 0) (var 1) ⊞ larger (s (var 0) (var 1))) (r (var 0) (var 1) ⊞ smaller (s (var 0) (var 1))) → (x y : O.ring.Element)
+      → Holds O (x ∷ y ∷ []) (s (var 0) (var 1)) → O.AtMost (evaluate O.ring (x ∷ y ∷ []) (l (var 0) (var 1))) (evaluate O.ring (x ∷ y ∷ [])
+      (r (var 0) (var 1)))
   le₂ l r s e x y = certified (x ∷ y ∷ []) (l (var 0) (var 1)) (r (var 0) (var 1)) (s (var 0) (var 1)) e
 
-  pub le₃ : (l r : Expression → Expression → Expression → Expression) (s : Expression → Expression → Expression → List Step) → Alike (l (var 0) (var 1) (var 2) ⊞ larger (s (var 0) (var 1) (var 2))) (r (var 0) (var 1) (var 2) ⊞ smaller (s (var 0) (var 1) (var 2))) → (x y z : O.ring.Element) → Holds O (x ∷ y ∷ z ∷ []) (s (var 0) (var 1) (var 2)) → O.AtMost (evaluate O.ring (x ∷ y ∷ z ∷ []) (l (var 0) (var 1) (var 2))) (evaluate O.ring (x ∷ y ∷ z ∷ []) (r (var 0) (var 1) (var 2)))
+  pub le₃ : (l r : Expression → Expression → Expression → Expression) (s : Expression → Expression → Expression → List Step)
+      → Alike (l (var 0) (var 1) (var 2) ⊞ larger (s (var 0) (var 1) (var 2))) (r (var 0) (var 1) (var 2) ⊞ smaller (s (var 0) (var 1) (var 2)))
+      → (x y z : O.ring.Element) → Holds O (x ∷ y ∷ z ∷ []) (s (var 0) (var 1) (var 2))
+      → O.AtMost (evaluate O.ring (x ∷ y ∷ z ∷ []) (l (var 0) (var 1) (var 2))) (evaluate O.ring (x ∷ y ∷ z ∷ []) (r (var 0) (var 1) (var 2)))
   le₃ l r s e x y z = certified (x ∷ y ∷ z ∷ []) (l (var 0) (var 1) (var 2)) (r (var 0) (var 1) (var 2)) (s (var 0) (var 1) (var 2)) e
 
-  pub le₄ : (l r : Expression → Expression → Expression → Expression → Expression) (s : Expression → Expression → Expression → Expression → List Step) → Alike (l (var 0) (var 1) (var 2) (var 3) ⊞ larger (s (var 0) (var 1) (var 2) (var 3))) (r (var 0) (var 1) (var 2) (var 3) ⊞ smaller (s (var 0) (var 1) (var 2) (var 3))) → (x y z w : O.ring.Element) → Holds O (x ∷ y ∷ z ∷ w ∷ []) (s (var 0) (var 1) (var 2) (var 3)) → O.AtMost (evaluate O.ring (x ∷ y ∷ z ∷ w ∷ []) (l (var 0) (var 1) (var 2) (var 3))) (evaluate O.ring (x ∷ y ∷ z ∷ w ∷ []) (r (var 0) (var 1) (var 2) (var 3)))
-  le₄ l r s e x y z w = certified (x ∷ y ∷ z ∷ w ∷ []) (l (var 0) (var 1) (var 2) (var 3)) (r (var 0) (var 1) (var 2) (var 3)) (s (var 0) (var 1) (var 2) (var 3)) e
+  pub le₄ : (l r : Expression → Expression → Expression → Expression → Expression)
+      (s : Expression → Expression → Expression → Expression → List Step)
+      → Alike (l (var 0) (var 1) (var 2) (var 3) ⊞ larger (s (var 0) (var 1) (var 2) (var 3)))
+      (r (var 0) (var 1) (var 2) (var 3) ⊞ smaller (s (var 0) (var 1) (var 2) (var 3))) → (x y z w : O.ring.Element)
+      → Holds O (x ∷ y ∷ z ∷ w ∷ []) (s (var 0) (var 1) (var 2) (var 3))
+      → O.AtMost (evaluate O.ring (x ∷ y ∷ z ∷ w ∷ []) (l (var 0) (var 1) (var 2) (var 3)))
+      (evaluate O.ring (x ∷ y ∷ z ∷ w ∷ []) (r (var 0) (var 1) (var 2) (var 3)))
+  le₄ l r s e x y z w = certified (x ∷ y ∷ z ∷ w ∷ []) (l (var 0) (var 1) (var 2) (var 3)) (r (var 0) (var 1) (var 2) (var 3))
+      (s (var 0) (var 1) (var 2) (var 3)) e
 
-  pub le₅ : (l r : Expression → Expression → Expression → Expression → Expression → Expression) (s : Expression → Expression → Expression → Expression → Expression → List Step) → Alike (l (var 0) (var 1) (var 2) (var 3) (var 4) ⊞ larger (s (var 0) (var 1) (var 2) (var 3) (var 4))) (r (var 0) (var 1) (var 2) (var 3) (var 4) ⊞ smaller (s (var 0) (var 1) (var 2) (var 3) (var 4))) → (x y z w v : O.ring.Element) → Holds O (x ∷ y ∷ z ∷ w ∷ v ∷ []) (s (var 0) (var 1) (var 2) (var 3) (var 4)) → O.AtMost (evaluate O.ring (x ∷ y ∷ z ∷ w ∷ v ∷ []) (l (var 0) (var 1) (var 2) (var 3) (var 4))) (evaluate O.ring (x ∷ y ∷ z ∷ w ∷ v ∷ []) (r (var 0) (var 1) (var 2) (var 3) (var 4)))
-  le₅ l r s e x y z w v = certified (x ∷ y ∷ z ∷ w ∷ v ∷ []) (l (var 0) (var 1) (var 2) (var 3) (var 4)) (r (var 0) (var 1) (var 2) (var 3) (var 4)) (s (var 0) (var 1) (var 2) (var 3) (var 4)) e
+  pub le₅ : (l r : Expression → Expression → Expression → Expression → Expression → Expression)
+      (s : Expression → Expression → Expression → Expression → Expression → List Step)
+      → Alike (l (var 0) (var 1) (var 2) (var 3) (var 4) ⊞ larger (s (var 0) (var 1) (var 2) (var 3) (var 4)))
+      (r (var 0) (var 1) (var 2) (var 3) (var 4) ⊞ smaller (s (var 0) (var 1) (var 2) (var 3) (var 4))) → (x y z w v : O.ring.Element)
+      → Holds O (x ∷ y ∷ z ∷ w ∷ v ∷ []) (s (var 0) (var 1) (var 2) (var 3) (var 4))
+      → O.AtMost (evaluate O.ring (x ∷ y ∷ z ∷ w ∷ v ∷ []) (l (var 0) (var 1) (var 2) (var 3) (var 4)))
+      (evaluate O.ring (x ∷ y ∷ z ∷ w ∷ v ∷ []) (r (var 0) (var 1) (var 2) (var 3) (var 4)))
+  le₅ l r s e x y z w v = certified (x ∷ y ∷ z ∷ w ∷ v ∷ []) (l (var 0) (var 1) (var 2) (var 3) (var 4)) (r (var 0) (var 1) (var 2) (var 3) (var 4))
+      (s (var 0) (var 1) (var 2) (var 3) (var 4)) e
 
-  pub le₆ : (l r : Expression → Expression → Expression → Expression → Expression → Expression → Expression) (s : Expression → Expression → Expression → Expression → Expression → Expression → List Step) → Alike (l (var 0) (var 1) (var 2) (var 3) (var 4) (var 5) ⊞ larger (s (var 0) (var 1) (var 2) (var 3) (var 4) (var 5))) (r (var 0) (var 1) (var 2) (var 3) (var 4) (var 5) ⊞ smaller (s (var 0) (var 1) (var 2) (var 3) (var 4) (var 5))) → (x y z w v u : O.ring.Element) → Holds O (x ∷ y ∷ z ∷ w ∷ v ∷ u ∷ []) (s (var 0) (var 1) (var 2) (var 3) (var 4) (var 5)) → O.AtMost (evaluate O.ring (x ∷ y ∷ z ∷ w ∷ v ∷ u ∷ []) (l (var 0) (var 1) (var 2) (var 3) (var 4) (var 5))) (evaluate O.ring (x ∷ y ∷ z ∷ w ∷ v ∷ u ∷ []) (r (var 0) (var 1) (var 2) (var 3) (var 4) (var 5)))
-  le₆ l r s e x y z w v u = certified (x ∷ y ∷ z ∷ w ∷ v ∷ u ∷ []) (l (var 0) (var 1) (var 2) (var 3) (var 4) (var 5)) (r (var 0) (var 1) (var 2) (var 3) (var 4) (var 5)) (s (var 0) (var 1) (var 2) (var 3) (var 4) (var 5)) e
+  pub le₆ : (l r : Expression → Expression → Expression → Expression → Expression → Expression → Expression)
+      (s : Expression → Expression → Expression → Expression → Expression → Expression → List Step)
+      → Alike (l (var 0) (var 1) (var 2) (var 3) (var 4) (var 5) ⊞ larger (s (var 0) (var 1) (var 2) (var 3) (var 4) (var 5)))
+      (r (var 0) (var 1) (var 2) (var 3) (var 4) (var 5) ⊞ smaller (s (var 0) (var 1) (var 2) (var 3) (var 4) (var 5)))
+      → (x y z w v u : O.ring.Element) → Holds O (x ∷ y ∷ z ∷ w ∷ v ∷ u ∷ []) (s (var 0) (var 1) (var 2) (var 3) (var 4) (var 5))
+      → O.AtMost (evaluate O.ring (x ∷ y ∷ z ∷ w ∷ v ∷ u ∷ []) (l (var 0) (var 1) (var 2) (var 3) (var 4) (var 5)))
+      (evaluate O.ring (x ∷ y ∷ z ∷ w ∷ v ∷ u ∷ []) (r (var 0) (var 1) (var 2) (var 3) (var 4) (var 5)))
+  le₆ l r s e x y z w v u = certified (x ∷ y ∷ z ∷ w ∷ v ∷ u ∷ []) (l (var 0) (var 1) (var 2) (var 3) (var 4) (var 5))
+      (r (var 0) (var 1) (var 2) (var 3) (var 4) (var 5)) (s (var 0) (var 1) (var 2) (var 3) (var 4) (var 5)) e

@@ -1,5 +1,6 @@
 -- Division of whole numbers by a positive one, rounded down.
-use Rattle.std.proofs.Common.{◌≡◌, sym, ℕ, ◌+◌, ◌*◌, ◌/◌, ◌%◌, ◌-◌, ◌<◌, ℤ, pos, negsuc, ◌+ℤ◌, ◌*ℤ◌, ◌≤ℤ◌, ◌<ℤ◌, arith, div-add-mod', mod-lt, lt_of_mul-lt-mul_right, subst₂, refl}
+use Rattle.std.proofs.Common.{◌≡◌, sym, ℕ, ◌+◌, ◌*◌, ◌/◌, ◌%◌, ◌-◌, ◌<◌, ℤ, pos, negsuc, ◌+ℤ◌, ◌*ℤ◌, ◌≤ℤ◌, ◌<ℤ◌, arith, div-add-mod', mod-lt}
+use Rattle.std.proofs.Common.{lt_of_mul-lt-mul_right, subst₂, refl}
 use Rattle.ring_solver.specs.Expression.{◌⊞◌, ◌⊠◌}
 use Rattle.ring_solver.proofs.Solver.{ring₃}
 use Rattle.ring_solver.proofs.Whole.{ℤ_ring, ≤ℤ_antisym, ≤ℤ-<ℤ_trans, *ℤ_mono, *ℤ_mono_back, *ℤ_mono_strict, *ℤ_mono_strict_back}
@@ -9,20 +10,30 @@ use borrow.Author.Differences.{same_in, up, down, at_most_in, below_in, lt_out, 
 -- the quotient times the divisor is at most the number ..
 pub div_euclid_low : (z : ℤ) (d : ℕ) → 0 < d → (int_div_euclid z (pos d) *ℤ pos d) ≤ℤ z
 div_euclid_low (pos a) d p = at_most_in (pos (a / d) *ℤ pos d) (pos a) (omega (arith, product_is (pos (a / d)) (pos d), div-add-mod' a d))
-div_euclid_low (negsuc a) d p = at_most_in (negsuc (a / d) *ℤ pos d) (negsuc a) (omega (arith, product_is (negsuc (a / d)) (pos d), div-add-mod' a d, mod-lt a p))
+div_euclid_low (negsuc a) d p = at_most_in (negsuc (a / d) *ℤ pos d) (negsuc a)
+    (omega (arith, product_is (negsuc (a / d)) (pos d), div-add-mod' a d, mod-lt a p))
 
 -- .. and less than a divisor below it
 pub div_euclid_high : (z : ℤ) (d : ℕ) → 0 < d → z <ℤ (int_div_euclid z (pos d) *ℤ pos d +ℤ pos d)
 div_euclid_high (pos a) d p =
-    below_in (pos a) (pos (a / d) *ℤ pos d +ℤ pos d) (omega (arith, sum_is_lem (pos (a / d) *ℤ pos d) (pos d), product_is (pos (a / d)) (pos d), div-add-mod' a d, mod-lt a p))
+    below_in (pos a) (pos (a / d) *ℤ pos d +ℤ pos d) (omega (
+      arith,
+      sum_is_lem (pos (a / d) *ℤ pos d) (pos d),
+      product_is (pos (a / d))
+          (pos d),
+      div-add-mod' a d,
+      mod-lt a p,
+    ))
 div_euclid_high (negsuc a) d p =
-    below_in (negsuc a) (negsuc (a / d) *ℤ pos d +ℤ pos d) (omega (arith, sum_is_lem (negsuc (a / d) *ℤ pos d) (pos d), product_is (negsuc (a / d)) (pos d), div-add-mod' a d, mod-lt a p))
+    below_in (negsuc a) (negsuc (a / d) *ℤ pos d +ℤ pos d) (omega
+    (arith, sum_is_lem (negsuc (a / d) *ℤ pos d) (pos d), product_is (negsuc (a / d)) (pos d), div-add-mod' a d, mod-lt a p))
 
 -- whole numbers with q d < (p + 1) d are q ≤ p
 at_most_by : (q p : ℤ) (d : ℕ) → (q *ℤ pos d) <ℤ (p *ℤ pos d +ℤ pos d) → q ≤ℤ p
 at_most_by q p d h =
     at_most_in q p
-    (let k : (up q + down p) * d < (up p + down q + 1) * d = omega (arith, lt_out (q *ℤ pos d) (p *ℤ pos d +ℤ pos d) h, sum_is_lem (p *ℤ pos d) (pos d), product_is q (pos d), product_is p (pos d)) in
+    (let k : (up q + down p) * d < (up p + down q + 1) * d = omega
+    (arith, lt_out (q *ℤ pos d) (p *ℤ pos d +ℤ pos d) h, sum_is_lem (p *ℤ pos d) (pos d), product_is q (pos d), product_is p (pos d)) in
     let l : up q + down p < up p + down q + 1 = lt_of_mul-lt-mul_right d k in omega arith)
 
 -- there is one such number
@@ -40,12 +51,14 @@ div_euclid_same z y d e p r h =
     (*ℤ_mono_back (q *ℤ pos d) z e r
     (subst₂ ◌≤ℤ◌ (ring₃ ℤ_ring (λ q d e. (q ⊠ e) ⊠ d) (λ q d e. (q ⊠ d) ⊠ e) refl q (pos d) (pos e)) (sym h) (*ℤ_mono (q *ℤ pos e) y d (div_euclid_low y e r))))
     (*ℤ_mono_strict_back z (q *ℤ pos d +ℤ pos d) e
-    (subst₂ ◌<ℤ◌ (sym h) (ring₃ ℤ_ring (λ q d e. (q ⊠ e ⊞ e) ⊠ d) (λ q d e. (q ⊠ d ⊞ d) ⊠ e) refl q (pos d) (pos e)) (*ℤ_mono_strict y (q *ℤ pos e +ℤ pos e) d p (div_euclid_high y e r))))
+    (subst₂ ◌<ℤ◌ (sym h) (ring₃ ℤ_ring (λ q d e. (q ⊠ e ⊞ e) ⊠ d) (λ q d e. (q ⊠ d ⊞ d) ⊠ e) refl q (pos d) (pos e))
+    (*ℤ_mono_strict y (q *ℤ pos e +ℤ pos e) d p (div_euclid_high y e r))))
 
 -- the quotient and the remainder give the number back
 pub div_rem_euclid : (z : ℤ) (d : ℕ) → 0 < d → int_div_euclid z (pos d) *ℤ pos d +ℤ int_rem_euclid z (pos d) ≡ z
 div_rem_euclid (pos a) d p =
-    same_in (pos (a / d) *ℤ pos d +ℤ pos (a % d)) (pos a) (omega (arith, sum_is_lem (pos (a / d) *ℤ pos d) (pos (a % d)), product_is (pos (a / d)) (pos d), div-add-mod' a d))
+    same_in (pos (a / d) *ℤ pos d +ℤ pos (a % d)) (pos a) (omega
+    (arith, sum_is_lem (pos (a / d) *ℤ pos d) (pos (a % d)), product_is (pos (a / d)) (pos d), div-add-mod' a d))
 div_rem_euclid (negsuc a) d p =
     same_in (negsuc (a / d) *ℤ pos d +ℤ pos (d - 1 - a % d)) (negsuc a)
     (omega (arith, sum_is_lem (negsuc (a / d) *ℤ pos d) (pos (d - 1 - a % d)), product_is (negsuc (a / d)) (pos d), div-add-mod' a d, mod-lt a p))

@@ -1,7 +1,9 @@
 -- What the operations on polynomials do to their values in a ring.
-use Rattle.std.proofs.Common.{◌≡◌, refl, sym, ap, ap₂, ◌∙◌, ℕ, zero, suc, ◌*◌, Bool, true, false, cond, ◌&&◌, T, eqb, ltb, eqb→eq, List, [], ◌∷◌, suc-mul, zero-mul, add-one}
+use Rattle.std.proofs.Common.{◌≡◌, refl, sym, ap, ap₂, ◌∙◌, ℕ, zero, suc, ◌*◌, Bool, true, false, cond, ◌&&◌, T, eqb, ltb, eqb→eq, List, [], ◌∷◌}
+use Rattle.std.proofs.Common.{suc-mul, zero-mul, add-one}
 use Rattle.ring_solver.specs.Ring.{CommutativeRing}
-use Rattle.ring_solver.specs.Expression.{variable, is_same, is_before, with_variable, joined, Polynomial, none, term, with_term, sum_of, times_term, product_of, constant}
+use Rattle.ring_solver.specs.Expression.{variable, is_same, is_before, with_variable, joined, Polynomial, none, term, with_term, sum_of, times_term}
+use Rattle.ring_solver.specs.Expression.{product_of, constant}
 
 -- a fact of both values that a choice has
 chosen : {A : Type 0} (P : A → Type 0) (b : Bool) {x y : A} → (T b → P x) → P y → P (cond b x y)
@@ -83,17 +85,21 @@ module _ (K : CommutativeRing) where
 
     pub joined-at : (m n : List ℕ) → product_at ρ (joined m n) ≡ K.mul (product_at ρ m) (product_at ρ n)
     joined-at [] n = sym (one-mul' (product_at ρ n))
-    joined-at (i ∷ m) n = with_variable-at i (joined m n) ∙ ap (K.mul (variable K ρ i)) (joined-at m n) ∙ sym (K.mul_assoc (variable K ρ i) (product_at ρ m) (product_at ρ n))
+    joined-at (i ∷ m) n = with_variable-at i (joined m n) ∙ ap (K.mul (variable K ρ i)) (joined-at m n)
+        ∙ sym (K.mul_assoc (variable K ρ i) (product_at ρ m) (product_at ρ n))
 
-    pub with_term-at : (c : ℕ) (m : List ℕ) (p : Polynomial) → polynomial_at ρ (with_term c m p) ≡ K.add (K.mul (K.whole c) (product_at ρ m)) (polynomial_at ρ p)
+    pub with_term-at : (c : ℕ) (m : List ℕ) (p : Polynomial)
+        → polynomial_at ρ (with_term c m p) ≡ K.add (K.mul (K.whole c) (product_at ρ m)) (polynomial_at ρ p)
     with_term-at c m none = refl
     with_term-at c m (term d n p) =
-        chosen (λ q. polynomial_at ρ q ≡ K.add (K.mul (K.whole c) (product_at ρ m)) (K.add (K.mul (K.whole d) (product_at ρ n)) (polynomial_at ρ p))) (is_same m n)
+        chosen (λ q. polynomial_at ρ q ≡ K.add (K.mul (K.whole c) (product_at ρ m)) (K.add (K.mul (K.whole d) (product_at ρ n)) (polynomial_at ρ p)))
+        (is_same m n)
         (λ h. ap (λ t. K.add t (polynomial_at ρ p))
         (ap (λ t. K.mul t (product_at ρ n)) (K.whole-add c d) ∙ add-mul' (K.whole c) (K.whole d) (product_at ρ n)
         ∙ ap (λ t. K.add (K.mul (K.whole c) (product_at ρ t)) (K.mul (K.whole d) (product_at ρ n))) (sym (is_same→eq m n h)))
         ∙ K.add_assoc (K.mul (K.whole c) (product_at ρ m)) (K.mul (K.whole d) (product_at ρ n)) (polynomial_at ρ p))
-        (chosen (λ q. polynomial_at ρ q ≡ K.add (K.mul (K.whole c) (product_at ρ m)) (K.add (K.mul (K.whole d) (product_at ρ n)) (polynomial_at ρ p))) (is_before m n)
+        (chosen (λ q. polynomial_at ρ q ≡ K.add (K.mul (K.whole c) (product_at ρ m)) (K.add (K.mul (K.whole d) (product_at ρ n))
+        (polynomial_at ρ p))) (is_before m n)
         (λ _. refl)
         (ap (K.add (K.mul (K.whole d) (product_at ρ n))) (with_term-at c m p)
         ∙ add_left_comm (K.mul (K.whole d) (product_at ρ n)) (K.mul (K.whole c) (product_at ρ m)) (polynomial_at ρ p)))
@@ -104,7 +110,8 @@ module _ (K : CommutativeRing) where
         with_term-at c m (sum_of p q) ∙ ap (K.add (K.mul (K.whole c) (product_at ρ m))) (sum_of-at p q)
         ∙ sym (K.add_assoc (K.mul (K.whole c) (product_at ρ m)) (polynomial_at ρ p) (polynomial_at ρ q))
 
-    pub times_term-at : (c : ℕ) (m : List ℕ) (q : Polynomial) → polynomial_at ρ (times_term c m q) ≡ K.mul (K.mul (K.whole c) (product_at ρ m)) (polynomial_at ρ q)
+    pub times_term-at : (c : ℕ) (m : List ℕ) (q : Polynomial)
+        → polynomial_at ρ (times_term c m q) ≡ K.mul (K.mul (K.whole c) (product_at ρ m)) (polynomial_at ρ q)
     times_term-at c m none = sym (mul-zero' (K.mul (K.whole c) (product_at ρ m)))
     times_term-at c m (term d n q) =
         with_term-at (c * d) (joined m n) (times_term c m q)

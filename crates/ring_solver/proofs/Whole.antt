@@ -1,50 +1,11 @@
--- The whole numbers as a commutative ring, and their products in order.
-use Rattle.std.proofs.Common.{◌≡◌, refl, ap, ℕ, ◌+◌, ◌*◌, ◌<◌, ◌≤◌, ℤ, pos, negsuc, ◌+ℤ◌, ◌*ℤ◌, neg_ℤ, ◌≤ℤ◌, ◌<ℤ◌, arith, le_of_mul-le-mul_right, mul-le-mul_right, mul-lt-mul_of_pos_right, lt_of_mul-lt-mul_right}
+-- The whole numbers as an ordered ring, and their products in order.
+use Rattle.std.proofs.Common.{◌≡◌, ℕ, ◌+◌, ◌*◌, ◌<◌, ◌≤◌, ℤ, pos, negsuc, ◌+ℤ◌, ◌*ℤ◌, ◌≤ℤ◌, ◌<ℤ◌, arith, le_of_mul-le-mul_right, mul-le-mul_right}
+use Rattle.std.proofs.Common.{mul-lt-mul_of_pos_right, lt_of_mul-lt-mul_right}
 use Rattle.std.specs.Int.Signed.{≤ℤ_refl}
-use Rattle.std.proofs.Math.IntN.{+ℤ_assoc, +ℤ_comm, +ℤ_idr, +ℤ_invr, *ℤ_comm}
 use borrow.Author.Differences.{up, down, same_in, at_most_in, below_in, le_out, lt_out, sum_is_lem, product_is}
-use Rattle.ring_solver.specs.Ring.{CommutativeRing, Image}
 use Rattle.ring_solver.specs.Ordered.{OrderedRing}
-
-pub *ℤ-+ℤ : (a b c : ℤ) → a *ℤ (b +ℤ c) ≡ a *ℤ b +ℤ a *ℤ c
-*ℤ-+ℤ a b c =
-    same_in (a *ℤ (b +ℤ c)) (a *ℤ b +ℤ a *ℤ c)
-    (omega (arith, product_is a (b +ℤ c), sum_is_lem (a *ℤ b) (a *ℤ c), product_is a b, product_is a c, ap (λ t. up a * t) (sum_is_lem b c), ap (λ t. down a * t) (sum_is_lem b c)))
-
-pub *ℤ_assoc : (a b c : ℤ) → (a *ℤ b) *ℤ c ≡ a *ℤ (b *ℤ c)
-*ℤ_assoc a b c =
-    let left = product_is (a *ℤ b) c in
-    let right = product_is a (b *ℤ c) in
-    let ab = product_is a b in
-    let bc = product_is b c in
-    same_in ((a *ℤ b) *ℤ c) (a *ℤ (b *ℤ c))
-    (omega (arith, left, right, ap (λ t. t * up c) ab.0, ap (λ t. t * up c) ab.1, ap (λ t. t * down c) ab.0, ap (λ t. t * down c) ab.1, ap (λ t. up a * t) bc.0, ap (λ t. up a * t) bc.1, ap (λ t. down a * t) bc.0, ap (λ t. down a * t) bc.1))
-
-pub *ℤ-pos_one : (a : ℤ) → a *ℤ pos 1 ≡ a
-*ℤ-pos_one a = same_in (a *ℤ pos 1) a (omega (arith, product_is a (pos 1)))
-
--- the ring of the whole numbers
-abbrev pub ℤ_ring : CommutativeRing
-ℤ_ring = record {
-  Element = ℤ;
-  whole = pos;
-  add = ◌+ℤ◌;
-  mul = ◌*ℤ◌;
-  neg = neg_ℤ;
-  add_assoc = +ℤ_assoc;
-  add_comm = +ℤ_comm;
-  add-zero = +ℤ_idr;
-  add-neg = +ℤ_invr;
-  mul_assoc = *ℤ_assoc;
-  mul_comm = *ℤ_comm;
-  mul-one = *ℤ-pos_one;
-  mul-add = *ℤ-+ℤ;
-  whole-add = λ m n. refl;
-}
-
--- the whole numbers as their own image
-abbrev pub ℤ_image : Image ℤ_ring
-ℤ_image = record { of = λ a. a; of-pos = λ n. refl; of-add = λ a b. refl; of-mul = λ a b. refl; of-neg = λ a. refl }
+pub use Rattle.ring_solver.specs.Whole.{ℤ_ring, ℤ_image}
+pub use Rattle.ring_solver.specs.WholeProducts.{*ℤ-+ℤ, *ℤ_assoc, *ℤ-pos_one}
 
 pub ≤ℤ_trans : (a b c : ℤ) → a ≤ℤ b → b ≤ℤ c → a ≤ℤ c
 ≤ℤ_trans a b c h k = at_most_in a c (omega (arith, le_out a b h, le_out b c k))
@@ -88,15 +49,18 @@ pub *ℤ_mono : (a b : ℤ) (d : ℕ) → a ≤ℤ b → (a *ℤ pos d) ≤ℤ (
 pub *ℤ_mono_back : (a b : ℤ) (d : ℕ) → 0 < d → (a *ℤ pos d) ≤ℤ (b *ℤ pos d) → a ≤ℤ b
 *ℤ_mono_back a b d p h =
     at_most_in a b
-    (le_of_mul-le-mul_right (let k : (up a + down b) * d ≤ (up b + down a) * d = omega (arith, product_is a (pos d), product_is b (pos d), le_out (a *ℤ pos d) (b *ℤ pos d) h) in k) p)
+    (le_of_mul-le-mul_right (let k : (up a + down b) * d ≤ (up b + down a) * d = omega
+    (arith, product_is a (pos d), product_is b (pos d), le_out (a *ℤ pos d) (b *ℤ pos d) h) in k) p)
 
 -- the same of a strict order
 pub *ℤ_mono_strict : (a b : ℤ) (d : ℕ) → 0 < d → a <ℤ b → (a *ℤ pos d) <ℤ (b *ℤ pos d)
 *ℤ_mono_strict a b d p h =
     below_in (a *ℤ pos d) (b *ℤ pos d)
-    (let k : (up a + down b) * d < (up b + down a) * d = mul-lt-mul_of_pos_right (lt_out a b h) p in omega (arith, k, product_is a (pos d), product_is b (pos d)))
+    (let k : (up a + down b) * d < (up b + down a) * d = mul-lt-mul_of_pos_right (lt_out a b h) p in omega
+    (arith, k, product_is a (pos d), product_is b (pos d)))
 
 pub *ℤ_mono_strict_back : (a b : ℤ) (d : ℕ) → (a *ℤ pos d) <ℤ (b *ℤ pos d) → a <ℤ b
 *ℤ_mono_strict_back a b d h =
     below_in a b
-    (lt_of_mul-lt-mul_right d (let k : (up a + down b) * d < (up b + down a) * d = omega (arith, product_is a (pos d), product_is b (pos d), lt_out (a *ℤ pos d) (b *ℤ pos d) h) in k))
+    (lt_of_mul-lt-mul_right d (let k : (up a + down b) * d < (up b + down a) * d = omega
+    (arith, product_is a (pos d), product_is b (pos d), lt_out (a *ℤ pos d) (b *ℤ pos d) h) in k))

@@ -1,4 +1,8 @@
 pub mod Reference
-pub mod Narrowing
-pub mod Nested
-pub mod Enclosed
+pub mod Errors
+pub mod Horner
+pub mod Coefficients
+pub mod QuarterSquare
+pub mod Sizes
+pub mod Negative
+pub mod Sines

@@ -1,5 +1,6 @@
 -- The four cases of the reference angle, for whole numbers: den half parts to a quarter turn, and rest parts of the turn.
-use Rattle.std.proofs.Common.{◌≡◌, refl, sym, subst, ap, ap₂, ◌∙◌, ℕ, ◌*◌, ◌^◌, ◌<◌, ◌≤◌, Bool, true, false, cond, not, T, ℤ, pos, negsuc, ◌-ℤ◌, ◌*ℤ◌, ◌≤ℤ◌, ◌<ℤ◌, unsigned_abs, FitsSigned, arith}
+use Rattle.std.proofs.Common.{◌≡◌, refl, sym, subst, ap, ap₂, ◌∙◌, ℕ, ◌*◌, ◌^◌, ◌<◌, ◌≤◌, Bool, true, false, cond, not, T, ℤ, pos, negsuc, ◌-ℤ◌, ◌*ℤ◌}
+use Rattle.std.proofs.Common.{◌≤ℤ◌, ◌<ℤ◌, unsigned_abs, FitsSigned, arith}
 use Rattle.std.specs.Int.{w128, int_rem_euclid}
 use Rattle.std.proofs.lemmas.Int.{ints, fits_signed_from_abs}
 use Rattle.std.specs.Int.Signed.{le_z_yes}
@@ -93,7 +94,8 @@ pieces f x y z w false false false h = refl
 
 sine_by_reference : (n : ℕ) (t : ℚ) → sine_within_turn n t ≡ signed_value (is_negative t) (sine_sum n (pi_sum n *ℚ reference_of t))
 sine_by_reference n t =
-    pieces (λ x. sine_sum n (pi_sum n *ℚ x)) t (whole 1 -ℚ t) (t -ℚ whole 1) (whole 2 -ℚ t) (at_most t (pos 1 ÷ 2)) (at_most t (whole 1)) (at_most t (pos 3 ÷ 2)) later
+    pieces (λ x. sine_sum n (pi_sum n *ℚ x)) t (whole 1 -ℚ t) (t -ℚ whole 1) (whole 2 -ℚ t) (at_most t (pos 1 ÷ 2)) (at_most t (whole 1))
+    (at_most t (pos 3 ÷ 2)) later
   where
     later : T (at_most t (pos 1 ÷ 2)) → T (at_most t (whole 1))
     later h = (le_trans t (pos 1 ÷ 2) (whole 1) (record { le = h }) (over_le (pos 1) (pos 1) 2 1 (omega arith) (omega arith) (omega (arith, ints)))).le
@@ -104,7 +106,8 @@ sine_at n x a h = sine_by_reference n (wrapped x) ∙ ap₂ (λ s v. signed_valu
 
 -- ---- what is left of whole turns
 
-wrapped_is : (n : ℤ) (d r : ℕ) (a : ReferenceAngle) → 0 < d → int_rem_euclid n (pos (2 * d)) ≡ pos r → IsReferenceOf (pos r ÷ d) a → IsReferenceOf (wrapped (n ÷ d)) a
+wrapped_is : (n : ℤ) (d r : ℕ) (a : ReferenceAngle) → 0 < d → int_rem_euclid n (pos (2 * d)) ≡ pos r → IsReferenceOf (pos r ÷ d) a
+    → IsReferenceOf (wrapped (n ÷ d)) a
 wrapped_is n d r a p e h = subst (λ x. IsReferenceOf x a) (sym (wrapped-over n d p ∙ ap (λ z. z ÷ d) e)) h
 
 -- what is promised of the answer for n / den
@@ -173,7 +176,8 @@ pub below_of : (a b : ℤ) → int_le a b ≡ false → b <ℤ a
 below_of a b h = below_in b a (omega (arith, le_not a b (subst (λ t. T (not t)) (sym h) tt)))
 
 -- the four pieces, where `rest` is the remainder of n by 2·den
-pub turned_first : (n den rest : ℤ) → pos 1 ≤ℤ den → den ≤ℤ pos (2 ^ 42) → rest ≡ int_rem_euclid n (pos 2 *ℤ den) → (pos 2 *ℤ rest) ≤ℤ den → IsTurned n den (record { negative = false; num = unsigned_abs rest; den = unsigned_abs den })
+pub turned_first : (n den rest : ℤ) → pos 1 ≤ℤ den → den ≤ℤ pos (2 ^ 42) → rest ≡ int_rem_euclid n (pos 2 *ℤ den) → (pos 2 *ℤ rest) ≤ℤ den
+    → IsTurned n den (record { negative = false; num = unsigned_abs rest; den = unsigned_abs den })
 turned_first n (negsuc d) rest p s e h = absurd p.le
 turned_first n (pos d) rest p s e h =
     let b = rest_of n rest d (omega (arith, ints)) e in
@@ -190,7 +194,8 @@ turned_first n (pos d) rest p s e h =
           reference = record { positive = positive; small = omega (arith, ints); quarter = quarter };
         })
 
-pub turned_second : (n den rest : ℤ) → pos 1 ≤ℤ den → den ≤ℤ pos (2 ^ 42) → rest ≡ int_rem_euclid n (pos 2 *ℤ den) → den <ℤ (pos 2 *ℤ rest) → rest ≤ℤ den → IsTurned n den (record { negative = false; num = unsigned_abs (den -ℤ rest); den = unsigned_abs den })
+pub turned_second : (n den rest : ℤ) → pos 1 ≤ℤ den → den ≤ℤ pos (2 ^ 42) → rest ≡ int_rem_euclid n (pos 2 *ℤ den) → den <ℤ (pos 2 *ℤ rest)
+    → rest ≤ℤ den → IsTurned n den (record { negative = false; num = unsigned_abs (den -ℤ rest); den = unsigned_abs den })
 turned_second n (negsuc d) rest p s e l h = absurd p.le
 turned_second n (pos d) rest p s e l h =
     let b = rest_of n rest d (omega (arith, ints)) e in
@@ -205,11 +210,13 @@ turned_second n (pos d) rest p s e l h =
         let m_is : pos (unsigned_abs (pos d -ℤ rest)) ≡ pos d -ℤ pos r = omega (arith, ints) in
         record {
           denominator = refl;
-          wrapped_reference = wrapped_is n d r (record { negative = false; num = m; den = d }) positive (sym e ∙ is) (in_second r d positive m below above m_is);
+          wrapped_reference = wrapped_is n d r (record { negative = false; num = m; den = d }) positive (sym e ∙ is)
+              (in_second r d positive m below above m_is);
           reference = record { positive = positive; small = omega (arith, ints); quarter = omega (arith, ints) };
         }
 
-pub turned_third : (n den rest : ℤ) → pos 1 ≤ℤ den → den ≤ℤ pos (2 ^ 42) → rest ≡ int_rem_euclid n (pos 2 *ℤ den) → den <ℤ rest → (pos 2 *ℤ rest) ≤ℤ (pos 3 *ℤ den) → IsTurned n den (record { negative = true; num = unsigned_abs (rest -ℤ den); den = unsigned_abs den })
+pub turned_third : (n den rest : ℤ) → pos 1 ≤ℤ den → den ≤ℤ pos (2 ^ 42) → rest ≡ int_rem_euclid n (pos 2 *ℤ den) → den <ℤ rest
+    → (pos 2 *ℤ rest) ≤ℤ (pos 3 *ℤ den) → IsTurned n den (record { negative = true; num = unsigned_abs (rest -ℤ den); den = unsigned_abs den })
 turned_third n (negsuc d) rest p s e l h = absurd p.le
 turned_third n (pos d) rest p s e l h =
     let b = rest_of n rest d (omega (arith, ints)) e in
@@ -228,7 +235,8 @@ turned_third n (pos d) rest p s e l h =
           reference = record { positive = positive; small = omega (arith, ints); quarter = omega (arith, ints) };
         }
 
-pub turned_fourth : (n den rest : ℤ) → pos 1 ≤ℤ den → den ≤ℤ pos (2 ^ 42) → rest ≡ int_rem_euclid n (pos 2 *ℤ den) → (pos 3 *ℤ den) <ℤ (pos 2 *ℤ rest) → IsTurned n den (record { negative = true; num = unsigned_abs (pos 2 *ℤ den -ℤ rest); den = unsigned_abs den })
+pub turned_fourth : (n den rest : ℤ) → pos 1 ≤ℤ den → den ≤ℤ pos (2 ^ 42) → rest ≡ int_rem_euclid n (pos 2 *ℤ den)
+    → (pos 3 *ℤ den) <ℤ (pos 2 *ℤ rest) → IsTurned n den (record { negative = true; num = unsigned_abs (pos 2 *ℤ den -ℤ rest); den = unsigned_abs den })
 turned_fourth n (negsuc d) rest p s e l = absurd p.le
 turned_fourth n (pos d) rest p s e l =
     let b = rest_of n rest d (omega (arith, ints)) e in

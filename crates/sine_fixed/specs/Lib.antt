@@ -1,2 +1,2 @@
 pub mod ReferenceAngle
-pub mod Narrow
+pub mod Near

@@ -31,12 +31,14 @@ abs_zero = ap abs zero ∙ abs_of_nonneg (whole 0) (whole_nonneg 0)
     zero = ring ℚ_ring [] (num 0 ⊟ num 0) (num 0) refl
 
 -- a multiple of what is at most b
-multiple_at_most : (c : ℤ) (z b : ℚ) → abs z ≤ℚ b → abs ((c ÷ 1) *ℚ z) ≤ℚ whole (unsigned_abs c) *ℚ b
+pub multiple_at_most : (c : ℤ) (z b : ℚ) → abs z ≤ℚ b → abs ((c ÷ 1) *ℚ z) ≤ℚ whole (unsigned_abs c) *ℚ b
 multiple_at_most c z b h =
-    moved ℚ_ordered (sym (abs-mul (c ÷ 1) z ∙ ap (λ t. t *ℚ abs z) (abs-int c))) refl (mul_mono ℚ_ordered (whole (unsigned_abs c)) (abs z) b (whole_nonneg (unsigned_abs c)) h)
+    moved ℚ_ordered (sym (abs-mul (c ÷ 1) z ∙ ap (λ t. t *ℚ abs z) (abs-int c))) refl
+    (mul_mono ℚ_ordered (whole (unsigned_abs c)) (abs z) b (whole_nonneg (unsigned_abs c)) h)
 
 -- sums over terms, where no direction's share differs by more than b times its reach
-terms_steep : (f g : Dir → ℚ) (b : ℚ) → ((d : Dir) → abs (f d -ℚ g d) ≤ℚ b *ℚ whole (dir_reach d)) → (ts : List Term) → abs (weigh_terms ℚ_ring ℚ_image f ts -ℚ weigh_terms ℚ_ring ℚ_image g ts) ≤ℚ b *ℚ whole (terms_reach ts)
+terms_steep : (f g : Dir → ℚ) (b : ℚ) → ((d : Dir) → abs (f d -ℚ g d) ≤ℚ b *ℚ whole (dir_reach d)) → (ts : List Term)
+    → abs (weigh_terms ℚ_ring ℚ_image f ts -ℚ weigh_terms ℚ_ring ℚ_image g ts) ≤ℚ b *ℚ whole (terms_reach ts)
 terms_steep f g b near [] = at_most_of_same ℚ_ordered (abs_zero ∙ ring ℚ_ring (b ∷ []) (num 0) (var 0 ⊠ num 0) refl)
 terms_steep f g b near (t ∷ ts) =
     let c = t.c ÷ 1 in
@@ -47,14 +49,17 @@ terms_steep f g b near (t ∷ ts) =
     let m = whole (dir_reach t.dir) in
     let rest = whole (terms_reach ts) in
     let total : whole (terms_reach (t ∷ ts)) ≡ k *ℚ m +ℚ rest =
-    ap whole (terms_reach-cons t ts) ∙ int-add (pos (unsigned_abs t.c * dir_reach t.dir)) (pos (terms_reach ts)) ∙ ap (λ s. s +ℚ rest) (int-mul (pos (unsigned_abs t.c)) (pos (dir_reach t.dir)))
+    ap whole (terms_reach-cons t ts) ∙ int-add (pos (unsigned_abs t.c * dir_reach t.dir)) (pos (terms_reach ts))
+    ∙ ap (λ s. s +ℚ rest) (int-mul (pos (unsigned_abs t.c)) (pos (dir_reach t.dir)))
     in
     subst (λ s. abs ((c *ℚ f t.dir +ℚ F) -ℚ (c *ℚ g t.dir +ℚ G)) ≤ℚ b *ℚ s) (sym total)
     (le_trans (abs ((c *ℚ f t.dir +ℚ F) -ℚ (c *ℚ g t.dir +ℚ G))) (abs here +ℚ abs (F -ℚ G)) (b *ℚ (k *ℚ m +ℚ rest))
     (moved ℚ_ordered
-    (ap abs (ring ℚ_ring (c ∷ f t.dir ∷ g t.dir ∷ F ∷ G ∷ []) (var 0 ⊠ (var 1 ⊟ var 2) ⊞ (var 3 ⊟ var 4)) ((var 0 ⊠ var 1 ⊞ var 3) ⊟ (var 0 ⊠ var 2 ⊞ var 4)) refl)) refl
+    (ap abs (ring ℚ_ring (c ∷ f t.dir ∷ g t.dir ∷ F ∷ G ∷ []) (var 0 ⊠ (var 1 ⊟ var 2) ⊞ (var 3 ⊟ var 4))
+    ((var 0 ⊠ var 1 ⊞ var 3) ⊟ (var 0 ⊠ var 2 ⊞ var 4)) refl)) refl
     (abs_add_le here (F -ℚ G)))
-    (certified ℚ_ordered (abs here ∷ abs (F -ℚ G) ∷ b ∷ k ∷ m ∷ rest ∷ []) (var 0 ⊞ var 1) (var 2 ⊠ (var 3 ⊠ var 4 ⊞ var 5)) (le (var 0) (var 3 ⊠ (var 2 ⊠ var 4)) ∷ le (var 1) (var 2 ⊠ var 5) ∷ []) refl
+    (certified ℚ_ordered (abs here ∷ abs (F -ℚ G) ∷ b ∷ k ∷ m ∷ rest ∷ []) (var 0 ⊞ var 1) (var 2 ⊠ (var 3 ⊠ var 4 ⊞ var 5))
+    (le (var 0) (var 3 ⊠ (var 2 ⊠ var 4)) ∷ le (var 1) (var 2 ⊠ var 5) ∷ []) refl
     (multiple_at_most t.c (f t.dir -ℚ g t.dir) (b *ℚ m) (near t.dir), (terms_steep f g b near ts, tt))))
 
 -- how far a direction turns
@@ -67,7 +72,8 @@ turn_moves d x y x' y' r h k =
     subst (λ s. abs (turn_of d x y -ℚ turn_of d x' y') ≤ℚ s *ℚ r) (sym (int-add (pos (unsigned_abs d.m)) (pos (unsigned_abs d.n))))
     (le_trans (abs (turn_of d x y -ℚ turn_of d x' y')) (abs first +ℚ abs second) ((m +ℚ n) *ℚ r)
     (moved ℚ_ordered
-    (ap abs (ring₆ ℚ_ring (λ m n x y s t. m ⊠ (x ⊟ s) ⊞ n ⊠ (y ⊟ t)) (λ m n x y s t. (m ⊠ x ⊞ n ⊠ y) ⊟ (m ⊠ s ⊞ n ⊠ t)) refl (d.m ÷ 1) (d.n ÷ 1) x y x' y')) refl
+    (ap abs (ring₆ ℚ_ring (λ m n x y s t. m ⊠ (x ⊟ s) ⊞ n ⊠ (y ⊟ t)) (λ m n x y s t. (m ⊠ x ⊞ n ⊠ y) ⊟ (m ⊠ s ⊞ n ⊠ t)) refl (d.m ÷ 1)
+    (d.n ÷ 1) x y x' y')) refl
     (abs_add_le first second))
     (le₅ ℚ_ordered (λ u v m n r. u ⊞ v) (λ u v m n r. (m ⊞ n) ⊠ r) (λ u v m n r. le u (m ⊠ r) ∷ le v (n ⊠ r) ∷ []) refl
     (abs first) (abs second) m n r (multiple_at_most d.m (x -ℚ x') r h, (multiple_at_most d.n (y -ℚ y') r k, tt))))

@@ -43,24 +43,28 @@ upper = whole 16 *ℚ alternating (arctan_term 5) 16 -ℚ whole 4 *ℚ alternati
 
 pi_of : (n : ℕ) → pi_sum n ≡ whole 16 *ℚ alternating (arctan_term 5) n -ℚ whole 4 *ℚ alternating (arctan_term 239) n
 unfolding pi_sum
-pi_of n = subst₂ (λ a b. whole 16 *ℚ arctan_sum 5 n -ℚ whole 4 *ℚ arctan_sum 239 n ≡ whole 16 *ℚ a -ℚ whole 4 *ℚ b) (arctan_alternates 5 n) (arctan_alternates 239 n) refl
+pi_of n = subst₂ (λ a b. whole 16 *ℚ arctan_sum 5 n -ℚ whole 4 *ℚ arctan_sum 239 n ≡ whole 16 *ℚ a -ℚ whole 4 *ℚ b) (arctan_alternates 5 n)
+    (arctan_alternates 239 n) refl
 
 combined : (a a' b b' : ℚ) → a ≤ℚ a' → b' ≤ℚ b → whole 16 *ℚ a -ℚ whole 4 *ℚ b ≤ℚ whole 16 *ℚ a' -ℚ whole 4 *ℚ b'
 combined a a' b b' h k =
-    le₄ ℚ_ordered (λ a a' b b'. num 16 ⊠ a ⊟ num 4 ⊠ b) (λ a a' b b'. num 16 ⊠ a' ⊟ num 4 ⊠ b') (λ a a' b b'. times (num 16) a a' ∷ times (num 4) b' b ∷ []) refl
+    le₄ ℚ_ordered (λ a a' b b'. num 16 ⊠ a ⊟ num 4 ⊠ b) (λ a a' b b'. num 16 ⊠ a' ⊟ num 4 ⊠ b')
+    (λ a a' b b'. times (num 16) a a' ∷ times (num 4) b' b ∷ []) refl
     a a' b b' (whole_nonneg 16, h, (whole_nonneg 4, k, tt))
 
 pub pi_at_least : (n : ℕ) → 16 ≤ n → lower ≤ℚ pi_sum n
 unfolding lower
 pi_at_least n h =
     subst (λ t. lower ≤ℚ t) (sym (pi_of n))
-    (combined _ _ _ _ (at_least_odd 7 n (arctan_term 5) (arctan_falls 5 (lit< tt)) (omega arith)) (at_most_even 2 n (arctan_term 239) (arctan_falls 239 (lit< tt)) (omega arith)))
+    (combined _ _ _ _ (at_least_odd 7 n (arctan_term 5) (arctan_falls 5 (lit< tt)) (omega arith))
+    (at_most_even 2 n (arctan_term 239) (arctan_falls 239 (lit< tt)) (omega arith)))
 
 pub pi_at_most : (n : ℕ) → 16 ≤ n → pi_sum n ≤ℚ upper
 unfolding upper
 pi_at_most n h =
     subst (λ t. t ≤ℚ upper) (sym (pi_of n))
-    (combined _ _ _ _ (at_most_even 8 n (arctan_term 5) (arctan_falls 5 (lit< tt)) (omega arith)) (at_least_odd 2 n (arctan_term 239) (arctan_falls 239 (lit< tt)) (omega arith)))
+    (combined _ _ _ _ (at_most_even 8 n (arctan_term 5) (arctan_falls 5 (lit< tt)) (omega arith))
+    (at_least_odd 2 n (arctan_term 239) (arctan_falls 239 (lit< tt)) (omega arith)))
 
 -- pi is from 3 to 16/5
 lower_large : whole 3 ≤ℚ lower

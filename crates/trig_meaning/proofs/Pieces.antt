@@ -61,7 +61,8 @@ pieces_agree_lem =
     record {
       at_0 = λ n. sine_sum-turned n (pi_sum n) (whole 2 -ℚ whole 2) (whole 0) (ring₁ ℚ_ring (λ p. p ⊠ num 0) (λ p. opp (p ⊠ (num 2 ⊟ num 2))) refl (pi_sum n));
       at_half = λ n. ap (λ t. sine_sum n (pi_sum n *ℚ t)) half_apart;
-      at_1 = λ n. sym (sine_sum-turned n (pi_sum n) (whole 1 -ℚ whole 1) (whole 1 -ℚ whole 1) (ring₁ ℚ_ring (λ p. p ⊠ (num 1 ⊟ num 1)) (λ p. opp (p ⊠ (num 1 ⊟ num 1))) refl (pi_sum n)));
+      at_1 = λ n. sym (sine_sum-turned n (pi_sum n) (whole 1 -ℚ whole 1) (whole 1 -ℚ whole 1)
+          (ring₁ ℚ_ring (λ p. p ⊠ (num 1 ⊟ num 1)) (λ p. opp (p ⊠ (num 1 ⊟ num 1))) refl (pi_sum n)));
       at_3_halves = λ n. ap (λ t. neg_ℚ (sine_sum n (pi_sum n *ℚ t))) three_halves_apart;
     }
 
@@ -93,7 +94,8 @@ pub on_fourth : (n : ℕ) (t : ℚ) → pos 3 ÷ 2 ≤ℚ t → sine_within_turn
 on_fourth n t l =
     chosen t (pos 1 ÷ 2) (λ k. lt_not_le (pos 1 ÷ 2) (pos 3 ÷ 2) half_lt_three_halves (le_trans (pos 3 ÷ 2) t (pos 1 ÷ 2) l k))
     (λ _. chosen t (whole 1) (λ k. lt_not_le (whole 1) (pos 3 ÷ 2) one_lt_three_halves (le_trans (pos 3 ÷ 2) t (whole 1) l k))
-    (λ _. chosen t (pos 3 ÷ 2) (λ k. subst (λ s. third_piece n s ≡ fourth_piece n s) (le_antisym (pos 3 ÷ 2) t l k) (pieces_agree_lem.at_3_halves n)) (λ _. refl)))
+    (λ _. chosen t (pos 3 ÷ 2) (λ k. subst (λ s. third_piece n s ≡ fourth_piece n s) (le_antisym (pos 3 ÷ 2) t l k) (pieces_agree_lem.at_3_halves n))
+    (λ _. refl)))
 
 -- ---- the second half of the turn mirrors the first
 
@@ -103,12 +105,15 @@ twice_neg = ring₁ ℚ_ring (λ x. x) (λ x. opp (opp x)) refl
 pub sine_within_turn-mirrored : (n : ℕ) (t : ℚ) → sine_within_turn n (whole 2 -ℚ t) ≡ neg_ℚ (sine_within_turn n t)
 sine_within_turn-mirrored n t =
     le_or_lt t (pos 1 ÷ 2)
-    (λ h. on_fourth n (whole 2 -ℚ t) (le₃ ℚ_ordered (λ t a b. b) (λ t a b. num 2 ⊟ t) (λ t a b. le t a ∷ same (num 1) (a ⊞ b) (num 2) ∷ []) refl t (pos 1 ÷ 2) (pos 3 ÷ 2) (h, (halves_add, tt)))
+    (λ h. on_fourth n (whole 2 -ℚ t) (le₃ ℚ_ordered (λ t a b. b) (λ t a b. num 2 ⊟ t) (λ t a b. le t a ∷ same (num 1) (a ⊞ b) (num 2) ∷
+    []) refl t (pos 1 ÷ 2) (pos 3 ÷ 2) (h, (halves_add, tt)))
     ∙ ap neg_ℚ (at_same n (whole 2 -ℚ (whole 2 -ℚ t)) t (ring₁ ℚ_ring (λ t. num 2 ⊟ (num 2 ⊟ t)) (λ t. t) refl t) ∙ sym (on_first n t h)))
     (λ l. le_or_lt t (whole 1)
     (λ h. on_third n (whole 2 -ℚ t) (le₁ ℚ_ordered (λ t. num 1) (λ t. num 2 ⊟ t) (λ t. le t (num 1) ∷ []) refl t (h, tt))
-    (le₃ ℚ_ordered (λ t a b. num 2 ⊟ t) (λ t a b. b) (λ t a b. le a t ∷ same (num 1) (num 2) (a ⊞ b) ∷ []) refl t (pos 1 ÷ 2) (pos 3 ÷ 2) (lt_le (pos 1 ÷ 2) t l, (sym halves_add, tt)))
-    ∙ ap neg_ℚ (at_same n (whole 2 -ℚ t -ℚ whole 1) (whole 1 -ℚ t) (ring₁ ℚ_ring (λ t. num 2 ⊟ t ⊟ num 1) (λ t. num 1 ⊟ t) refl t) ∙ sym (on_second n t (lt_le (pos 1 ÷ 2) t l) h)))
+    (le₃ ℚ_ordered (λ t a b. num 2 ⊟ t) (λ t a b. b) (λ t a b. le a t ∷ same (num 1) (num 2) (a ⊞ b) ∷ []) refl t (pos 1 ÷ 2) (pos 3 ÷ 2)
+    (lt_le (pos 1 ÷ 2) t l, (sym halves_add, tt)))
+    ∙ ap neg_ℚ (at_same n (whole 2 -ℚ t -ℚ whole 1) (whole 1 -ℚ t) (ring₁ ℚ_ring (λ t. num 2 ⊟ t ⊟ num 1) (λ t. num 1 ⊟ t) refl t)
+    ∙ sym (on_second n t (lt_le (pos 1 ÷ 2) t l) h)))
     (λ m. le_or_lt t (pos 3 ÷ 2)
     (λ h. on_second n (whole 2 -ℚ t)
     (le₃ ℚ_ordered (λ t a b. a) (λ t a b. num 2 ⊟ t) (λ t a b. le t b ∷ same (num 1) (a ⊞ b) (num 2) ∷ []) refl t (pos 1 ÷ 2) (pos 3 ÷ 2) (h, (halves_add, tt)))
@@ -116,7 +121,8 @@ sine_within_turn-mirrored n t =
     ∙ at_same n (whole 1 -ℚ (whole 2 -ℚ t)) (t -ℚ whole 1) (ring₁ ℚ_ring (λ t. num 1 ⊟ (num 2 ⊟ t)) (λ t. t ⊟ num 1) refl t)
     ∙ twice_neg (sine_sum n (pi_sum n *ℚ (t -ℚ whole 1))) ∙ ap neg_ℚ (sym (on_third n t (lt_le (whole 1) t m) h)))
     (λ k. on_first n (whole 2 -ℚ t)
-    (le₃ ℚ_ordered (λ t a b. num 2 ⊟ t) (λ t a b. a) (λ t a b. le b t ∷ same (num 1) (num 2) (a ⊞ b) ∷ []) refl t (pos 1 ÷ 2) (pos 3 ÷ 2) (lt_le (pos 3 ÷ 2) t k, (sym halves_add, tt)))
+    (le₃ ℚ_ordered (λ t a b. num 2 ⊟ t) (λ t a b. a) (λ t a b. le b t ∷ same (num 1) (num 2) (a ⊞ b) ∷ []) refl t (pos 1 ÷ 2) (pos 3 ÷ 2)
+    (lt_le (pos 3 ÷ 2) t k, (sym halves_add, tt)))
     ∙ twice_neg (sine_sum n (pi_sum n *ℚ (whole 2 -ℚ t))) ∙ ap neg_ℚ (sym (on_fourth n t (lt_le (pos 3 ÷ 2) t k))))))
   where
     at_same : (n : ℕ) (x y : ℚ) → x ≡ y → sine_sum n (pi_sum n *ℚ x) ≡ sine_sum n (pi_sum n *ℚ y)
@@ -148,7 +154,8 @@ half_turned n t low high =
     (le₃ ℚ_ordered (λ t a b. t ⊞ num 1) (λ t a b. b) (λ t a b. le t a ∷ same (num 1) (a ⊞ num 1) b ∷ []) refl t (pos 1 ÷ 2) (pos 3 ÷ 2) (h, (half_more, tt)))
     ∙ ap neg_ℚ (ap (first_piece n) (ring₁ ℚ_ring (λ t. t ⊞ num 1 ⊟ num 1) (λ t. t) refl t) ∙ sym (on_first n t h)))
     (λ l. on_fourth n (t +ℚ whole 1)
-    (le₃ ℚ_ordered (λ t a b. b) (λ t a b. t ⊞ num 1) (λ t a b. le a t ∷ same (num 1) b (a ⊞ num 1) ∷ []) refl t (pos 1 ÷ 2) (pos 3 ÷ 2) (lt_le (pos 1 ÷ 2) t l, (sym half_more, tt)))
+    (le₃ ℚ_ordered (λ t a b. b) (λ t a b. t ⊞ num 1) (λ t a b. le a t ∷ same (num 1) b (a ⊞ num 1) ∷ []) refl t (pos 1 ÷ 2) (pos 3 ÷ 2)
+    (lt_le (pos 1 ÷ 2) t l, (sym half_more, tt)))
     ∙ ap neg_ℚ (ap (first_piece n) (ring₁ ℚ_ring (λ t. num 2 ⊟ (t ⊞ num 1)) (λ t. num 1 ⊟ t) refl t) ∙ sym (on_second n t (lt_le (pos 1 ÷ 2) t l) high)))
 
 pub half_turn_negates_lem : HalfTurnNegates

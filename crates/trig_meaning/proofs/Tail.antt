@@ -1,5 +1,6 @@
 -- The tail of the sine series, for 0 ≤ z ≤ 8/5: within the first term left out, and far below 2^−60 after the term 11.
-use Rattle.std.proofs.Common.{◌≡◌, refl, sym, ap, ap₂, subst, ℕ, zero, suc, ◌+◌, ◌*◌, ◌^◌, ◌<◌, ◌≤◌, pos, [], ◌∷◌, arith, lit<, lit≤, mul-pos, mul_assoc, mul-le-mul, zero-lt-suc, pow_mono}
+use Rattle.std.proofs.Common.{◌≡◌, refl, sym, ap, ap₂, subst, ℕ, zero, suc, ◌+◌, ◌*◌, ◌^◌, ◌<◌, ◌≤◌, pos, [], ◌∷◌, arith, lit<, lit≤, mul-pos}
+use Rattle.std.proofs.Common.{mul_assoc, mul-le-mul, zero-lt-suc, pow_mono}
 use Rattle.std.proofs.Math.Nat.{le_trans as le_trans_ℕ}
 use Rattle.ring_solver.specs.Expression.{◌⊠◌}
 use Rattle.ring_solver.specs.Ordered.{times}
@@ -40,7 +41,8 @@ sine_term_nonneg z h j = mul_nonneg (power z (2 * j + 1)) (pos 1 ÷ factorial (2
 pub sine_term_mono : (z w : ℚ) → whole 0 ≤ℚ z → z ≤ℚ w → (j : ℕ) → sine_term z j ≤ℚ sine_term w j
 sine_term_mono z w h l j =
     mul_mono_both (power z (2 * j + 1)) (power w (2 * j + 1)) (pos 1 ÷ factorial (2 * j + 1)) (pos 1 ÷ factorial (2 * j + 1))
-    (over_nonneg 1 (factorial (2 * j + 1))) (power_nonneg w (le_trans (whole 0) z w h l) (2 * j + 1)) (power_mono z w h l (2 * j + 1)) (le_refl (pos 1 ÷ factorial (2 * j + 1)))
+    (over_nonneg 1 (factorial (2 * j + 1))) (power_nonneg w (le_trans (whole 0) z w h l) (2 * j + 1)) (power_mono z w h l (2 * j + 1))
+    (le_refl (pos 1 ÷ factorial (2 * j + 1)))
 
 square_closed : (pos 8 ÷ 5) *ℚ (pos 8 ÷ 5) ≤ℚ whole 6
 unfolding at_most ◌*ℚ◌ ◌÷◌
@@ -60,7 +62,8 @@ factors_large k m =
     le_trans_ℕ (lit≤ {m = 6} {n = 3 * 2} tt) (mul-le-mul {n₁ = 3} {m₁ = 2} {n₂ = suc (suc k)} {m₂ = suc k} a b)
 
 -- two steps of the power and of the factorial
-two_steps : (z : ℚ) → whole 0 ≤ℚ z → z ≤ℚ pos 8 ÷ 5 → (k : ℕ) → 1 ≤ k → power z (suc (suc k)) *ℚ (pos 1 ÷ factorial (suc (suc k))) ≤ℚ power z k *ℚ (pos 1 ÷ factorial k)
+pub two_steps : (z : ℚ) → whole 0 ≤ℚ z → z ≤ℚ pos 8 ÷ 5 → (k : ℕ) → 1 ≤ k
+    → power z (suc (suc k)) *ℚ (pos 1 ÷ factorial (suc (suc k))) ≤ℚ power z k *ℚ (pos 1 ÷ factorial k)
 two_steps z h l k m =
     let c = suc (suc k) * suc k in
     let i = pos 1 ÷ (c * factorial k) in
@@ -91,11 +94,14 @@ unfolding at_most ◌*ℚ◌ ◌÷◌
 term_closed = record { le = tt }
 
 -- the tail after the term 11, in units of 2^−bits
-pub sine_tail_small : (bits : ℕ) → bits ≤ 60 → (z : ℚ) → whole 0 ≤ℚ z → z ≤ℚ pos 8 ÷ 5 → (n : ℕ) → 11 ≤ n → abs (sine_sum n z -ℚ sine_sum 11 z) *ℚ whole (2 ^ bits) ≤ℚ pos 1 ÷ 100
+pub sine_tail_small : (bits : ℕ) → bits ≤ 60 → (z : ℚ) → whole 0 ≤ℚ z → z ≤ℚ pos 8 ÷ 5 → (n : ℕ) → 11 ≤ n
+    → abs (sine_sum n z -ℚ sine_sum 11 z) *ℚ whole (2 ^ bits) ≤ℚ pos 1 ÷ 100
 sine_tail_small bits b z h l n k =
     let tail = sine_tail z h l 11 n k in
     let term = sine_term_mono z (pos 8 ÷ 5) h l 12 in
     le_trans (abs (sine_sum n z -ℚ sine_sum 11 z) *ℚ whole (2 ^ bits)) (sine_term (pos 8 ÷ 5) 12 *ℚ whole (2 ^ 60)) (pos 1 ÷ 100)
-    (mul_mono_both (abs (sine_sum n z -ℚ sine_sum 11 z)) (sine_term (pos 8 ÷ 5) 12) (whole (2 ^ bits)) (whole (2 ^ 60)) (whole_nonneg (2 ^ bits)) (sine_term_nonneg (pos 8 ÷ 5) (over_nonneg 8 5) 12)
-    (le_trans (abs (sine_sum n z -ℚ sine_sum 11 z)) (sine_term z 12) (sine_term (pos 8 ÷ 5) 12) tail term) (whole_le (2 ^ bits) (2 ^ 60) (pow_mono {i = bits} {j = 60} b)))
+    (mul_mono_both (abs (sine_sum n z -ℚ sine_sum 11 z)) (sine_term (pos 8 ÷ 5) 12) (whole (2 ^ bits)) (whole (2 ^ 60)) (whole_nonneg (2 ^ bits))
+    (sine_term_nonneg (pos 8 ÷ 5) (over_nonneg 8 5) 12)
+    (le_trans (abs (sine_sum n z -ℚ sine_sum 11 z)) (sine_term z 12) (sine_term (pos 8 ÷ 5) 12) tail term)
+    (whole_le (2 ^ bits) (2 ^ 60) (pow_mono {i = bits} {j = 60} b)))
     term_closed

@@ -1,10 +1,10 @@
 -- The definitions tried on numbers from outside. The right sides were worked out with Python's module `fractions`, from
--- the textbook's formulas: 16·arctan(1/5) − 4·arctan(1/239), the Taylor polynomial of the sine, and sin(pi·t) by the four
+-- the textbook's formulas: 16·arctan(1/5) − 4·arctan(1/239), the Taylor polynomials of the sine and the cosine, and sin(pi·t) by the four
 -- pieces with t brought to 0 ≤ t < 2 by t − 2·floor(t/2). Each line is computed by the checker.
 use mathlib.Core.Quot.{sound}
 use Rattle.std.proofs.Common.{◌≡◌, refl, pos, neg_ℤ}
 use Rattle.rat_core.specs.Fraction.{◌÷◌, ◌+ℚ◌, ◌-ℚ◌, ◌*ℚ◌, neg_ℚ, at_most, ◌≤ℚ◌, abs, floor}
-use Rattle.trig_meaning.specs.PartialSums.{arctan_sum, pi_sum, sine_sum}
+use Rattle.trig_meaning.specs.PartialSums.{arctan_sum, pi_sum, sine_sum, cosine_sum}
 use Rattle.trig_meaning.specs.Turn.{sine_of_turn}
 
 pi_sum_0 : pi_sum 0 ≡ pos 3804 ÷ 1195
@@ -18,6 +18,18 @@ pi_sum_1 = sound refl
 pi_sum_2 : pi_sum 2 ≡ pos 38279241713339684 ÷ 12184551018734375
 unfolding pi_sum arctan_sum ◌+ℚ◌ ◌*ℚ◌ neg_ℚ ◌÷◌
 pi_sum_2 = sound refl
+
+cosine_sum_1_at_2_3 : cosine_sum 1 (pos 2 ÷ 3) ≡ pos 7 ÷ 9
+unfolding cosine_sum ◌+ℚ◌ ◌*ℚ◌ neg_ℚ ◌÷◌
+cosine_sum_1_at_2_3 = sound refl
+
+cosine_sum_2_at_1_2 : cosine_sum 2 (pos 1 ÷ 2) ≡ pos 337 ÷ 384
+unfolding cosine_sum ◌+ℚ◌ ◌*ℚ◌ neg_ℚ ◌÷◌
+cosine_sum_2_at_1_2 = sound refl
+
+cosine_sum_3_at_minus_3_2 : cosine_sum 3 (neg_ℤ (pos 3) ÷ 2) ≡ pos 359 ÷ 5120
+unfolding cosine_sum ◌+ℚ◌ ◌*ℚ◌ neg_ℚ ◌÷◌
+cosine_sum_3_at_minus_3_2 = sound refl
 
 sine_0_at_1_6 : sine_of_turn 0 (pos 1 ÷ 6) ≡ pos 634 ÷ 1195
 unfolding sine_of_turn sine_sum pi_sum arctan_sum at_most floor ◌+ℚ◌ ◌*ℚ◌ neg_ℚ ◌÷◌

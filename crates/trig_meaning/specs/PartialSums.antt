@@ -1,4 +1,4 @@
--- The partial sums of Machin's formula for pi and of the sine series, as fractions.
+-- The partial sums of Machin's formula for pi and of the series of the sine and the cosine, as fractions.
 use Rattle.std.specs.Prelude.{ℕ, zero, suc, ◌+◌, ◌*◌, ◌^◌, pos}
 use Rattle.rat_core.specs.Fraction.{ℚ, ◌÷◌, whole, ◌+ℚ◌, ◌-ℚ◌, ◌*ℚ◌, neg_ℚ}
 
@@ -31,3 +31,7 @@ pi_sum n = whole 16 *ℚ arctan_sum 5 n -ℚ whole 4 *ℚ arctan_sum 239 n
 -- The n-th sine sum, which is the Taylor polynomial of the sine at 0: the sum over j = 0..n of (−1)^j·z^(2j + 1) / (2j + 1)!.
 unfoldable pub sine_sum : ℕ → ℚ → ℚ
 sine_sum n z = sum_to (λ j. sign j *ℚ (power z (2 * j + 1) *ℚ (pos 1 ÷ factorial (2 * j + 1)))) n
+
+-- The n-th cosine sum, which is the Taylor polynomial of the cosine at 0: the sum over j = 0..n of (−1)^j·z^(2j) / (2j)!.
+unfoldable pub cosine_sum : ℕ → ℚ → ℚ
+cosine_sum n z = sum_to (λ j. sign j *ℚ (power z (2 * j) *ℚ (pos 1 ÷ factorial (2 * j)))) n

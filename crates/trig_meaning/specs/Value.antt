@@ -5,7 +5,7 @@
 -- as the sum of c·sin π(mx + ny).
 use Rattle.std.specs.Prelude.{ℕ, pos}
 use Rattle.rat_core.specs.Fraction.{ℚ, ◌÷◌, whole, ◌+ℚ◌, ◌*ℚ◌, ◌≤ℚ◌, ◌<ℚ◌}
-use Rattle.rat_core.proofs.Laws.{ℚ_ring, ℚ_image}
+use Rattle.rat_core.specs.Ring.{ℚ_ring, ℚ_image}
 use Rattle.exp_sums.specs.declared.direction.Dir.{Dir}
 use Rattle.exp_sums.specs.FormalPoint.{FormalPoint}
 use Rattle.exp_sums.specs.Weigh.{weigh}

@@ -20,6 +20,7 @@ use Rattle.exp_sums.proofs.PointRing.{point_ring}
 use Rattle.exp_sums.proofs.Weights.{weight-+ₚ, weight-negative, weight_difference, weight-monomial, weight-zero_point}
 use Rattle.exp_sums.proofs.Within.{IsWithin-monomial, IsWithin-zero_point, IsWithin-+ₚ}
 use Rattle.unfolding.specs.Triangle.{next_corner, corner_dir, mirrors, corner_of, centre_of}
+use Rattle.unfolding.specs.Corners.{CentreLaw}
 use Rattle.unfolding.specs.Signed.{sign_of, signed_point}
 use Rattle.unfolding.specs.declared.signed.Signed.{Signed}
 use Rattle.unfolding.specs.Walk.{mirrored_dir, seen_of}
@@ -84,6 +85,22 @@ pub centre-next : (w : List ℕ) (k : ℕ) → k < length w →
     centre_of w (suc k) ≡ centre_of w k +ₚ signed_point (seen_of (take k w) (next_corner (get_or w k 0))) +ₚ signed_point
     (seen_of (take k w) (next_corner (next_corner (get_or w k 0))))
 centre-next w k h = ap (λ v. mirrors v zero_point) (take-suc w k 0 h) ∙ centre-snoc (take k w) (get_or w k 0)
+
+-- and the same by the ends of the crossed edge
+pub centre_law : CentreLaw
+centre_law w k place =
+    let j = k - 1 in
+    let k_is : k ≡ suc j = omega (arith, place) in
+    let v = take j w in
+    let e = next_corner (get_or w j 0) in
+    let f = next_corner e in
+    let o = centre_of w j in
+    let s = signed_point (seen_of v e) in
+    let s' = signed_point (seen_of v f) in
+    ap (centre_of w) k_is
+    ∙ centre-next w j (omega (arith, place))
+    ∙ ring point_ring (o ∷ s ∷ s' ∷ []) (var 0 ⊞ var 1 ⊞ var 2) ((var 0 ⊞ var 1) ⊞ (var 0 ⊞ var 2) ⊟ var 0) refl
+    ∙ sym (ap₂ (λ p q. p +ₚ q -ₚ o) (corner_is_seen v e) (corner_is_seen v f))
 
 -- a signed direction weighs 1
 pub weight-signed : (b : Bool) (d : Dir) → weight (monomial (sign_of b) d) ≤ 1

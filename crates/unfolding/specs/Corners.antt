@@ -2,8 +2,8 @@
 
 use Rattle.std.specs.Prelude.{◌≡◌, ℕ, ◌-◌, ◌%◌, ◌==◌, List, All, if◌then◌else◌}
 use Rattle.edge_words.specs.Letters.{IsLetter, IsPlace, letter_at}
-use Rattle.exp_sums.specs.FormalPoint.{FormalPoint, conj, ◌-ₚ◌, ◌*ₚ◌}
-use Rattle.unfolding.specs.Triangle.{IsCorner, next_corner, first_corner, mirror, corner_of}
+use Rattle.exp_sums.specs.FormalPoint.{FormalPoint, conj, ◌+ₚ◌, ◌-ₚ◌, ◌*ₚ◌}
+use Rattle.unfolding.specs.Triangle.{IsCorner, next_corner, first_corner, mirror, corner_of, centre_of}
 
 -- a mirror keeps the two ends of its edge
 abbrev pub MirrorsKeepTheirEdges : Type 0
@@ -28,6 +28,13 @@ MirrorLaw =
     let e = next_corner d in
     let f = next_corner e in
     IsMirrored (corner_of w (k - 1)) (corner_of w k) d e f × IsMirrored (corner_of w (k - 1)) (corner_of w k) d f e
+
+-- the centre of the circle round a triangle is mirrored with it: the old centre and the new one add up to the two ends of the crossed edge
+abbrev pub CentreLaw : Type 0
+CentreLaw =
+    (w : List ℕ) (k : ℕ) → IsPlace w k →
+    let e = next_corner (letter_at w k) in
+    centre_of w k ≡ corner_of w (k - 1) e +ₚ corner_of w (k - 1) (next_corner e) -ₚ centre_of w (k - 1)
 
 -- The path leaves triangle k − 1 through its edge d, the k-th letter. Triangles of even number run counterclockwise, those of odd number clockwise;
 -- so the left end of the edge is corner d + 2 of an even triangle, corner d + 1 of an odd one, counted cyclically.

@@ -39,4 +39,5 @@ pub test_point-requires-2-clause-second : goal.test_point-requires-2-clause-seco
 test_point-requires-2-clause-second g c = subst (λ (y : Written). whole 0 <ℚ value y) (sym c.new-5.ensures) quarter_positive
 
 pub test_point-requires-2-clause-third : goal.test_point-requires-2-clause-third
-test_point-requires-2-clause-third g c = subst₂ (λ (x y : Written). value x +ℚ value y <ℚ whole 1) (sym c.new-4.ensures) (sym c.new-5.ensures) half_and_quarter_below_one
+test_point-requires-2-clause-third g c = subst₂ (λ (x y : Written). value x +ℚ value y <ℚ whole 1) (sym c.new-4.ensures)
+    (sym c.new-5.ensures) half_and_quarter_below_one

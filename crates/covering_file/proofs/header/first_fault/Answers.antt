@@ -3,4 +3,9 @@ use Rattle.covering_file.proofs.HeaderFaults.{stable_words}
 use Rattle.covering_file.proofs.header.first_fault.Goals as goal
 
 pub returns-then-depth-gt-MAX_LEVEL : goal.returns-then-depth-gt-MAX_LEVEL
-returns-then-depth-gt-MAX_LEVEL c = (search rules, stable_words c.args.words.now c.in_default.ensures, λ deep. omega (arith, deep, c.if-depth-gt-MAX_LEVEL.true))
+returns-then-depth-gt-MAX_LEVEL c = (
+  search rules,
+  stable_words c.args.words.now c.in_default.ensures,
+  λ deep. omega
+      (arith, deep, c.if-depth-gt-MAX_LEVEL.true),
+)

@@ -1,13 +1,12 @@
-use Rattle.std.proofs.Common.{◌≡◌, ◌+◌, ◌≤◌, List, ℕ, [], length, codes, arith, subst, sym, ◌∙◌, refl, Err}
+use Rattle.std.proofs.Common.{Err}
 use Rattle.std.proofs.lemmas.Result.{err_from_is_err_and}
-use Rattle.mcb_ends.specs.Reader.{bytes_before}
 use Rattle.line_grammar.specs.Input.{IsNew}
 use Rattle.covering_file.specs.declared.file_kind.FileKind.TheVariants.{Job}
 use Rattle.covering_file.proofs.JobParts.{from_line}
 use Rattle.covering_file.specs.Header.{Heading}
 use Rattle.covering_file.proofs.HeadLines.{end_is_form}
 use Rattle.covering_file.proofs.JobParts.{header_in_job, end_fails, after_fails, job_taken, wants_new, begins_new}
-use Rattle.covering_file.proofs.Wanting.{wants_none, wants_if_err}
+use Rattle.covering_file.proofs.Wanting.{wants_if_err}
 use Rattle.covering_file.proofs.job.read_job.Goals as goal
 
 pub take-requires-clause-form : goal.take-requires-clause-form
@@ -40,7 +39,8 @@ returns-in_err-take-clause-reads g c =
       new = c.take.new.lines;
       is_new = new;
       reads = from_line c.in_err-take.field-0.0 old c.take.new.lines a (left c.take.new.src)
-          (end_fails c.in_ok-header.header old mid c.take.new.lines a b (left c.take.new.src) _ new.done c.in_ok-header.ensures.reads c.in_err-take.ensures.reads);
+          (end_fails c.in_ok-header.header old mid c.take.new.lines a b
+          (left c.take.new.src) _ new.done c.in_ok-header.ensures.reads c.in_err-take.ensures.reads);
     })
 
 pub returns-in_err-end_of_input-clause-reads : goal.returns-in_err-end_of_input-clause-reads

@@ -1,10 +1,6 @@
-use Rattle.std.proofs.Common.{◌≡◌, ◌+◌, false, true, length, refl, arith, sym, ◌∙◌, subst}
+use Rattle.std.proofs.Common.{◌≡◌, ◌+◌, false, true, length, refl, ◌∙◌}
 use Rattle.std.proofs.lemmas.Result.{err_from_is_err_and}
 use Rattle.rational_polygon.specs.Outline.{IsPolygon}
-use Rattle.line_grammar.specs.Faults.{Refusal}
-use Rattle.line_grammar.specs.Part.{line_part}
-use Rattle.line_grammar.specs.Reading.{FailsPart}
-use Rattle.covering_file.specs.CornerForms.{next_corner_form}
 use Rattle.covering_file.proofs.CornerForms.{corner_is_form}
 use Rattle.covering_file.proofs.HeadFaults.{same_refusal}
 use Rattle.covering_file.proofs.NextCorner.{next_fails, last_refused, not_convex}
@@ -30,8 +26,10 @@ returns-in-Err-clause-fails g c =
     let cs = c.args.corners.items in
     let corner = c.in_ok-corner.corner in
     let takes = c.in_ok-corner.ensures.reads in
-    let more = pushed cs c.push.new.self.items corner c.push.result c.map_err.result c.in_ok-map_err.field-0 c.push.ensures.items c.map_err.ensures.variant c.in_ok-map_err.was in
-    let other : ¬ IsPolygon (record { grid = grid; corners = c.push.new.self.items }) = λ polygon. let ok : false ≡ true = c.in-Err.ensures.polygon.1 polygon in cc in
+    let more = pushed cs c.push.new.self.items corner c.push.result c.map_err.result c.in_ok-map_err.field-0 c.push.ensures.items
+    c.map_err.ensures.variant c.in_ok-map_err.was in
+    let other : ¬ IsPolygon (record { grid = grid; corners = c.push.new.self.items }) = λ polygon. let ok : false
+    ≡ true = c.in-Err.ensures.polygon.1 polygon in cc in
     let convex = not_convex grid cs c.push.new.self.items corner more c.requires.grid c.requires.count c.requires.inside takes.says.1 other in
     last_refused grid (length cs + 1) cs corner c.args.lines.now c.take.new.lines (left c.args.src.now) (left c.take.new.src) c.number.result
     (c.number.ensures ∙ takes.taken.number) (record { last = refl; not_convex = convex }) takes c.take.ensures.stops

@@ -1,4 +1,4 @@
-use Rattle.std.proofs.Common.{None, ◌≡◌, ◌+◌, ◌≤◌, ◌<◌, true, ℕ, List, ◌++◌, [], ◌∷◌, length, arith, ◌∙◌, sym, subst}
+use Rattle.std.proofs.Common.{None, ◌+◌, ◌<◌, ℕ, List, length, arith, ◌∙◌, sym, subst}
 use Rattle.std.proofs.lemmas.Result.{err_from_is_err_and}
 use Rattle.line_grammar.specs.Reading.{TakesPart}
 use Rattle.covering_file.specs.CornerForms.{CompletesNone}
@@ -29,7 +29,8 @@ returns-in_err-corner-clause-fails g c =
     let fewer : length cs < count = omega (arith, kept.count, c.corners-test.true) in
     let p = err_from_is_err_and c.from_residual.result c.from_residual.ensures.1 in
     rw (p.1, p.2, same_refusal c.in_err-corner.field-0.0)
-    (corner_turn_fails grid count cs c.args.lines.now c.corners.lines c.take.new.lines (left c.args.src.now) (left c.corners.src) (left c.take.new.src) _ kept.takes fewer
+    (corner_turn_fails grid count cs c.args.lines.now c.corners.lines c.take.new.lines (left c.args.src.now) (left c.corners.src)
+    (left c.take.new.src) _ kept.takes fewer
     (next_fails grid count cs c.corners.lines c.take.new.lines (left c.corners.src) (left c.take.new.src) _ c.in_err-corner.ensures.reads))
 
 pub returns-in_err-map_err-clause-fails : goal.returns-in_err-map_err-clause-fails
@@ -42,7 +43,8 @@ returns-in_err-map_err-clause-fails g c =
     let fewer : length cs < count = omega (arith, kept.count, c.corners-test.true) in
     let p = err_from_is_err_and c.from_residual-in_err-map_err.result c.from_residual-in_err-map_err.ensures.1 in
     rw (p.1, p.2)
-    (corner_turn_fails grid count cs c.args.lines.now c.corners.lines c.take.new.lines (left c.args.src.now) (left c.corners.src) (left c.take.new.src) None kept.takes fewer
+    (corner_turn_fails grid count cs c.args.lines.now c.corners.lines c.take.new.lines (left c.args.src.now) (left c.corners.src)
+    (left c.take.new.src) None kept.takes fewer
     (record { due = tt; reached = tt; stops = c.take.ensures.stops }))
 
 pub corners-preserved : goal.corners-preserved
@@ -54,12 +56,15 @@ corners-preserved g c =
     let corner = c.in_ok-corner.corner in
     let kept = c.corners.invariant in
     let fewer : length cs + 1 < count = omega (arith, kept.count, c.corners-test.true) in
-    let more = pushed cs c.push.new.self.items corner c.push.result c.map_err.result c.in_ok-map_err.field-0 c.push.ensures.items c.map_err.ensures.variant c.in_ok-map_err.was in
+    let more = pushed cs c.push.new.self.items corner c.push.result c.map_err.result c.in_ok-map_err.field-0 c.push.ensures.items
+    c.map_err.ensures.variant c.in_ok-map_err.was in
     let early : ¬ (CompletesNone grid count cs corner) = λ none. omega (arith, none.last, fewer) in
     let one = next_taken grid count cs corner c.corners.lines c.take.new.lines (left c.corners.src) (left c.take.new.src) early c.in_ok-corner.ensures.reads in
-    let takes = corner_turn_taken grid count cs corner c.args.lines.now c.corners.lines c.take.new.lines (left c.args.src.now) (left c.corners.src) (left c.take.new.src) kept.takes (omega (arith, fewer)) one in
+    let takes = corner_turn_taken grid count cs corner c.args.lines.now c.corners.lines c.take.new.lines (left c.args.src.now) (left c.corners.src)
+    (left c.take.new.src) kept.takes (omega (arith, fewer)) one in
     record {
-      takes = subst (λ (l : List (ℕ × ℕ)). TakesPart (corners_so_far grid count) c.args.lines.now c.take.new.lines (left c.args.src.now) (left c.take.new.src) l) (sym more) takes;
+      takes = subst (λ (l : List (ℕ × ℕ)). TakesPart (corners_so_far grid count) c.args.lines.now c.take.new.lines (left c.args.src.now)
+          (left c.take.new.src) l) (sym more) takes;
       number = omega (arith, kept.number, one.taken.number, length_more cs c.push.new.self.items corner more);
       count = omega (arith, kept.count, length_more cs c.push.new.self.items corner more);
       cause = c.in_ok-corner.ensures.cause ∙ kept.cause;

@@ -1,9 +1,8 @@
-use Rattle.std.proofs.Common.{◌≡◌, ◌+◌, ◌≤◌, ℕ, List, [], ◌∷◌, ◌++◌, length, codes, arith, subst, sym, ◌∙◌, Result, Ok, Err, IfOk, IfErr}
+use Rattle.std.proofs.Common.{codes, arith}
 use Rattle.std.proofs.lemmas.Result.{err_from_is_err_and}
-use Rattle.rational_polygon.specs.Outline.{Outline}
 use Rattle.covering_file.proofs.HeadFaults.{same_refusal}
 use Rattle.covering_file.proofs.HeadLines.{grid_is_form, polygon_is_form}
-use Rattle.covering_file.proofs.HeaderParts.{corners_inside, corners_number, count_fails, corners_fail, last_taken, outline_read}
+use Rattle.covering_file.proofs.HeaderParts.{corners_inside, corners_number, count_fails, corners_fail, outline_read}
 use Rattle.covering_file.specs.HeaderPart.{named_part, counted_corners}
 use Rattle.line_grammar.proofs.Parts.{fails_first}
 use Rattle.rational_polygon.specs.declared.TheConstants.{MAX_GRID}
@@ -20,7 +19,8 @@ returns-in_err-grid-clause-reads g c =
     let left = g.S.Source.left in
     let p = err_from_is_err_and c.from_residual.result c.from_residual.ensures.1 in
     rw (p.1, p.2, same_refusal c.in_err-grid.field-0.0)
-    (fails_first (named_part (codes "grid") 1 MAX_GRID) counted_corners c.args.lines.now c.take.new.lines (left c.args.src.now) (left c.take.new.src) _ c.requires.reading c.in_err-grid.ensures.reads)
+    (fails_first (named_part (codes "grid") 1 MAX_GRID) counted_corners c.args.lines.now c.take.new.lines (left c.args.src.now)
+    (left c.take.new.src) _ c.requires.reading c.in_err-grid.ensures.reads)
 
 pub returns-in_err-count-clause-reads : goal.returns-in_err-count-clause-reads
 returns-in_err-count-clause-reads g c =
@@ -46,13 +46,22 @@ last_corner-requires-clause-inside g c =
 pub last_corner-requires-clause-few : goal.last_corner-requires-clause-few
 last_corner-requires-clause-few g c =
     let left = g.S.Source.left in
-    omega (arith, c.requires.few, c.in_ok-grid.ensures.reads.taken.number, c.in_ok-count.ensures.reads.taken.number, c.in_ok-count.ensures.reads.says.1, c.in_ok-corners.ensures.count,
-      corners_number c.in_ok-grid.grid c.in_ok-count.count c.in_ok-corners.corners.items c.take-2.new.lines c.read_corners.new.lines (left c.take-2.new.src) (left c.read_corners.new.src) c.in_ok-corners.ensures.corners)
+    omega (
+      arith,
+      c.requires.few,
+      c.in_ok-grid.ensures.reads.taken.number,
+      c.in_ok-count.ensures.reads.taken.number,
+      c.in_ok-count.ensures.reads.says.1,
+      c.in_ok-corners.ensures.count,
+      corners_number c.in_ok-grid.grid c.in_ok-count.count c.in_ok-corners.corners.items c.take-2.new.lines c.read_corners.new.lines
+          (left c.take-2.new.src) (left c.read_corners.new.src) c.in_ok-corners.ensures.corners,
+    )
 
 pub returns-clause-reads : goal.returns-clause-reads
 returns-clause-reads g c =
     let left = g.S.Source.left in
-    outline_read c.in_ok-grid.grid c.in_ok-count.count c.in_ok-corners.corners.items c.last_corner.result c.args.lines.now c.take.new.lines c.take-2.new.lines c.read_corners.new.lines c.last_corner.new.lines
+    outline_read c.in_ok-grid.grid c.in_ok-count.count c.in_ok-corners.corners.items c.last_corner.result c.args.lines.now c.take.new.lines
+    c.take-2.new.lines c.read_corners.new.lines c.last_corner.new.lines
     (left c.args.src.now) (left c.take.new.src) (left c.take-2.new.src) (left c.read_corners.new.src) (left c.last_corner.new.src)
     c.in_ok-grid.ensures.reads c.in_ok-count.ensures.reads c.in_ok-corners.ensures.corners c.in_ok-corners.ensures.count
     c.last_corner.ensures.is_polygon c.last_corner.ensures.corner c.last_corner.ensures.fails

@@ -1,19 +1,16 @@
-use Rattle.std.proofs.Common.{◌≡◌, ◌+◌, ◌≤◌, List, ℕ, [], length, codes, arith, subst, sym, ◌∙◌, IfOk, Result}
+use Rattle.std.proofs.Common.{◌≡◌, List, ℕ, [], arith, subst, sym}
 use Rattle.std.proofs.lemmas.Result.{err_from_is_err_and, IfOk-at_ok}
 use Rattle.mcb_ends.specs.Reader.{bytes_before}
 use Rattle.line_grammar.specs.declared.reason.Reason.TheVariants.{OtherLine}
 use Rattle.line_grammar.specs.Form.{IsForm, whole_line}
-use Rattle.line_grammar.specs.Part.{line_part}
-use Rattle.line_grammar.specs.Reading.{TakesPart, FailsPart, ReadsPart}
-use Rattle.line_grammar.proofs.Parts.{fails_first}
+use Rattle.line_grammar.specs.Reading.{TakesPart}
 use Rattle.rational_polygon.specs.declared.TheConstants.{MAX_LEVEL}
-use Rattle.covering_file.specs.Header.{Heading, first_line}
-use Rattle.covering_file.specs.HeaderPart.{header_part, after_first_line}
-use Rattle.covering_file.specs.Faults.{head_refusal}
+use Rattle.covering_file.specs.Header.{Heading}
+use Rattle.covering_file.specs.HeaderPart.{header_part}
 use Rattle.covering_file.proofs.HeadFaults.{same_refusal}
 use Rattle.covering_file.proofs.HeadLines.{first_is_form, depth_is_form}
 use Rattle.covering_file.proofs.HeaderParts.{first_takes, first_fails, outline_fails, header_words_fail, depth_fails, header_taken}
-use Rattle.covering_file.proofs.Wanting.{begins_header, wants_none, wants_if_err}
+use Rattle.covering_file.proofs.Wanting.{begins_header, wants_if_err}
 use Rattle.covering_file.proofs.reading.read_header.Goals as goal
 
 pub take-requires-clause-form : goal.take-requires-clause-form
@@ -59,7 +56,8 @@ returns-in_err-words-clause-reads g c =
     let first = first_takes kind c.first_line.result.now c.in_ok-take.field-0 old mid a b c.first_line.ensures c.in_ok-take.ensures.reads in
     let p = err_from_is_err_and c.from_residual-in_err-words.result c.from_residual-in_err-words.ensures.1 in
     rw (p.1, p.2)
-    (header_words_fail kind c.in_ok-polygon.polygon old mid c.read_outline.new.lines c.read_words.new.lines a b (left c.read_outline.new.src) (left c.read_words.new.src) _
+    (header_words_fail kind c.in_ok-polygon.polygon old mid c.read_outline.new.lines c.read_words.new.lines a b (left c.read_outline.new.src)
+    (left c.read_words.new.src) _
     c.in_ok-polygon.ensures.reads.taken.reading first c.in_ok-polygon.ensures.reads c.in_err-words.ensures.fails)
 
 pub returns-in_err-depth-clause-reads : goal.returns-in_err-depth-clause-reads
@@ -92,7 +90,7 @@ returns-clause-reads g c =
     let new = c.take-2.new.lines in
     let e = left c.take-2.new.src in
     let kept : c.unwrap.result ≡ record { outline = o; words = ws; depth = depth } =
-        IfOk-at_ok (λ (h : Heading). h ≡ record { outline = o; words = ws; depth = depth }) c.unwrap.ensures c.new.ensures.kept in
+    IfOk-at_ok (λ (h : Heading). h ≡ record { outline = o; words = ws; depth = depth }) c.unwrap.ensures c.new.ensures.kept in
     subst (λ (h : Heading). TakesPart (header_part kind) old new a e h) (sym kept)
     (header_taken kind o ws depth old mid c.read_outline.new.lines c.read_words.new.lines new a b (left c.read_outline.new.src) (left c.read_words.new.src) e
     first c.in_ok-polygon.ensures.reads c.in_ok-words.ensures.words c.in_ok-depth.ensures.reads)

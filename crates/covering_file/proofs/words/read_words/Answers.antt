@@ -16,7 +16,8 @@ returns-in_err-count-clause-fails g c =
     let left = g.S.Source.left in
     let p = err_from_is_err_and c.from_residual.result c.from_residual.ensures.1 in
     rw (p.1, p.2, same_refusal c.in_err-count.field-0.0)
-    (fails_first (named_part (codes "words") 1 MAX_WORDS) listed_part c.args.lines.now c.take.new.lines (left c.args.src.now) (left c.take.new.src) _ c.requires.reading c.in_err-count.ensures.reads)
+    (fails_first (named_part (codes "words") 1 MAX_WORDS) listed_part c.args.lines.now c.take.new.lines (left c.args.src.now)
+    (left c.take.new.src) _ c.requires.reading c.in_err-count.ensures.reads)
 
 pub returns-clause-words : goal.returns-clause-words
 returns-clause-words g c =

@@ -21,8 +21,10 @@ returns-in_err-write_outline-clause-text g c =
     let outline = text_of (outline_lines h.outline) in
     let behind = text_of (words_lines h.words) ++ with_newline (named_line (codes "depth") h.depth) in
     let begun = subst (λ (o : Outline). AppendsPrefix head new (text_of (outline_lines o))) c.polygon.ensures.value c.in_err-write_outline.ensures.text in
-    let whole = AppendsPrefix-then old head new first (outline ++ behind) c.in_ok-write_first.ensures.text (AppendsPrefix-begun head new outline behind begun) in
-    Writes-failed old new result (header_text c.args.kind h) c.from_residual-in_err-write_outline.ensures.0 (subst (λ (text : List ℕ). AppendsPrefix old new text) (sym (header_text-parts c.args.kind h)) whole)
+    let whole = AppendsPrefix-then old head new first (outline ++ behind) c.in_ok-write_first.ensures.text
+    (AppendsPrefix-begun head new outline behind begun) in
+    Writes-failed old new result (header_text c.args.kind h) c.from_residual-in_err-write_outline.ensures.0
+    (subst (λ (text : List ℕ). AppendsPrefix old new text) (sym (header_text-parts c.args.kind h)) whole)
 
 pub returns-in_err-write_words-clause-text : goal.returns-in_err-write_words-clause-text
 returns-in_err-write_words-clause-text g c =
@@ -41,7 +43,8 @@ returns-in_err-write_words-clause-text g c =
     let begun = subst (λ (ws : List (List ℕ)). AppendsPrefix body new (text_of (words_lines ws))) c.words.ensures.all c.in_err-write_words.ensures.text in
     let behind = AppendsPrefix-then head body new outline (words ++ depth) told (AppendsPrefix-begun body new words depth begun) in
     let whole = AppendsPrefix-then old head new first (outline ++ (words ++ depth)) c.in_ok-write_first.ensures.text behind in
-    Writes-failed old new result (header_text c.args.kind h) c.from_residual-in_err-write_words.ensures.0 (subst (λ (text : List ℕ). AppendsPrefix old new text) (sym (header_text-parts c.args.kind h)) whole)
+    Writes-failed old new result (header_text c.args.kind h) c.from_residual-in_err-write_words.ensures.0
+    (subst (λ (text : List ℕ). AppendsPrefix old new text) (sym (header_text-parts c.args.kind h)) whole)
 
 pub returns-clause-text : goal.returns-clause-text
 returns-clause-text g c =

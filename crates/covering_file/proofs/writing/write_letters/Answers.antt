@@ -12,4 +12,6 @@ returns-in_err-write_word-clause-text g c =
     let new = k.written c.write_word.new.out in
     let item = c.word-item in
     let cut = subst (λ (w : List ℕ). AppendsPrefix now new (with_newline (digits_of w))) item.is c.in_err-write_word.ensures.text in
-    cut_in_list digits_of (k.written c.args.out.now) now new c.from_residual.result c.args.words.now c.loop-word.word-index item.result c.loop-word-test.true c.loop-word.invariant.text cut c.from_residual.ensures.0
+    cut_in_list digits_of
+    (k.written c.args.out.now) now new c.from_residual.result c.args.words.now c.loop-word.word-index item.result c.loop-word-test.true
+    c.loop-word.invariant.text cut c.from_residual.ensures.0

@@ -15,7 +15,8 @@ returns-in_err-write_named-clause-text g c =
     let new = k.written c.write_named.new.out in
     let behind = with_newline (named_line (codes "polygon") (length o.corners)) ++ text_of (map corner_line o.corners) in
     let begun = subst (λ (n : ℕ). AppendsPrefix old new (with_newline (named_line (codes "grid") n))) c.grid.ensures.value c.in_err-write_named.ensures.text in
-    Writes-failed old new c.from_residual.result (text_of (outline_lines o)) c.from_residual.ensures.0 (AppendsPrefix-begun old new (with_newline (named_line (codes "grid") o.grid)) behind begun)
+    Writes-failed old new c.from_residual.result (text_of (outline_lines o)) c.from_residual.ensures.0
+    (AppendsPrefix-begun old new (with_newline (named_line (codes "grid") o.grid)) behind begun)
 
 pub returns-in_err-write_named-2-clause-text : goal.returns-in_err-write_named-2-clause-text
 returns-in_err-write_named-2-clause-text g c =
@@ -27,9 +28,11 @@ returns-in_err-write_named-2-clause-text g c =
     let count = with_newline (named_line (codes "polygon") (length o.corners)) in
     let behind = text_of (map corner_line o.corners) in
     let whole = subst (λ (n : ℕ). Appends old head (with_newline (named_line (codes "grid") n))) c.grid.ensures.value c.in_ok-write_named.ensures.text in
-    let begun = subst (λ (cs : List (ℕ × ℕ)). AppendsPrefix head new (with_newline (named_line (codes "polygon") (length cs)))) c.corners-corners.ensures.all c.in_err-write_named-2.ensures.text in
+    let begun = subst (λ (cs : List (ℕ × ℕ)). AppendsPrefix head new
+    (with_newline (named_line (codes "polygon") (length cs)))) c.corners-corners.ensures.all c.in_err-write_named-2.ensures.text in
     Writes-failed old new c.from_residual-in_err-write_named-2.result (text_of (outline_lines o)) c.from_residual-in_err-write_named-2.ensures.0
-    (AppendsPrefix-then old head new (with_newline (named_line (codes "grid") o.grid)) (count ++ behind) whole (AppendsPrefix-begun head new count behind begun))
+    (AppendsPrefix-then old head new (with_newline (named_line (codes "grid") o.grid)) (count ++ behind) whole
+    (AppendsPrefix-begun head new count behind begun))
 
 pub returns-clause-text : goal.returns-clause-text
 returns-clause-text g c =
@@ -43,6 +46,9 @@ returns-clause-text g c =
     let count = with_newline (named_line (codes "polygon") (length o.corners)) in
     let behind = text_of (map corner_line o.corners) in
     let whole = subst (λ (n : ℕ). Appends old head (with_newline (named_line (codes "grid") n))) c.grid.ensures.value c.in_ok-write_named.ensures.text in
-    let counted = subst (λ (cs : List (ℕ × ℕ)). Appends head body (with_newline (named_line (codes "polygon") (length cs)))) c.corners-corners.ensures.all c.in_ok-write_named-2.ensures.text in
-    let listed = subst (λ (cs : List (ℕ × ℕ)). Writes body new result (text_of (map corner_line cs))) c.corners-corners.ensures.all c.write_corners.ensures.text in
-    Writes-then old head new result (with_newline (named_line (codes "grid") o.grid)) (count ++ behind) whole (Writes-then head body new result count behind counted listed)
+    let counted = subst (λ (cs : List (ℕ × ℕ)). Appends head body
+    (with_newline (named_line (codes "polygon") (length cs)))) c.corners-corners.ensures.all c.in_ok-write_named-2.ensures.text in
+    let listed = subst (λ (cs : List (ℕ × ℕ)). Writes body new result
+    (text_of (map corner_line cs))) c.corners-corners.ensures.all c.write_corners.ensures.text in
+    Writes-then old head new result (with_newline (named_line (codes "grid") o.grid)) (count ++ behind) whole
+    (Writes-then head body new result count behind counted listed)

@@ -7,4 +7,5 @@ use Rattle.covering_file.proofs.writing.write_word.Goals as goal
 pub returns-clause-text : goal.returns-clause-text
 returns-clause-text g c =
     let k = g.K.Sink in
-    Writes-then (k.written c.args.out.now) (k.written c.write.new.out) (k.written c.put.new.out) c.put.result (digits_of c.args.word.now) (newline ∷ []) c.in_ok-write.ensures.text c.put.ensures.text
+    Writes-then (k.written c.args.out.now) (k.written c.write.new.out) (k.written c.put.new.out) c.put.result (digits_of c.args.word.now)
+    (newline ∷ []) c.in_ok-write.ensures.text c.put.ensures.text

@@ -12,10 +12,12 @@ returns-in_err-write_named-clause-text g c =
     let ws = c.args.words.now in
     let old = k.written c.args.out.now in
     let new = k.written c.write_named.new.out in
-    Writes-failed old new c.from_residual.result (text_of (words_lines ws)) c.from_residual.ensures.0 (AppendsPrefix-begun old new (with_newline (named_line (codes "words") (length ws))) (text_of (map digits_of ws)) c.in_err-write_named.ensures.text)
+    Writes-failed old new c.from_residual.result (text_of (words_lines ws)) c.from_residual.ensures.0
+    (AppendsPrefix-begun old new (with_newline (named_line (codes "words") (length ws))) (text_of (map digits_of ws)) c.in_err-write_named.ensures.text)
 
 pub returns-clause-text : goal.returns-clause-text
 returns-clause-text g c =
     let k = g.K.Sink in
     let ws = c.args.words.now in
-    Writes-then (k.written c.args.out.now) (k.written c.write_named.new.out) (k.written c.write_letters.new.out) c.write_letters.result (with_newline (named_line (codes "words") (length ws))) (text_of (map digits_of ws)) c.in_ok-write_named.ensures.text c.write_letters.ensures.text
+    Writes-then (k.written c.args.out.now) (k.written c.write_named.new.out) (k.written c.write_letters.new.out) c.write_letters.result
+    (with_newline (named_line (codes "words") (length ws))) (text_of (map digits_of ws)) c.in_ok-write_named.ensures.text c.write_letters.ensures.text

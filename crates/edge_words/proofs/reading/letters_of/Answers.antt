@@ -17,7 +17,8 @@ push_reserved-requires c = (omega arith, omega arith)
 pub loop-digit-preserved : goal.loop-digit-preserved
 loop-digit-preserved c =
     let digit = c.requires.digits c.loop-digit.digit-index 0 c.loop-digit-test.true in
-    rw (c.push_reserved.ensures.items, c.push_reserved.ensures.capacity) (spelled_more _ _ _ _ c.loop-digit-test.true (omega (arith, digit)) c.loop-digit.invariant)
+    rw (c.push_reserved.ensures.items, c.push_reserved.ensures.capacity)
+    (spelled_more _ _ _ _ c.loop-digit-test.true (omega (arith, digit)) c.loop-digit.invariant)
 
 pub returns : goal.returns
 returns c = sym (take_all _ _ (omega arith)) ∙ c.loop-digit.invariant.spelled

@@ -12,11 +12,13 @@ loop-letter-init c = record {
 
 pub push_reserved-requires : goal.push_reserved-requires
 push_reserved-requires c =
-    let count = length_written c.args.letters.now c.loop-letter.letter-index c.loop-letter.digits.items c.loop-letter.digits.capacity (omega arith) c.loop-letter.invariant in
+    let count = length_written c.args.letters.now c.loop-letter.letter-index c.loop-letter.digits.items c.loop-letter.digits.capacity
+    (omega arith) c.loop-letter.invariant in
     (omega arith, omega (arith, count))
 
 pub loop-letter-preserved : goal.loop-letter-preserved
-loop-letter-preserved c = rw (c.push_reserved.ensures.items, c.push_reserved.ensures.capacity) (written_more _ _ _ _ c.loop-letter-test.true c.loop-letter.invariant)
+loop-letter-preserved c = rw (c.push_reserved.ensures.items, c.push_reserved.ensures.capacity)
+    (written_more _ _ _ _ c.loop-letter-test.true c.loop-letter.invariant)
 
 pub returns : goal.returns
 returns c = c.loop-letter.invariant.written ∙ ap digits_of (take_all _ _ (omega arith))

@@ -10,8 +10,10 @@ loop-index-init c = record { odd = refl; even = refl; odd_bound = omega arith; e
 pub loop-index-preserved : goal.loop-index-preserved
 loop-index-preserved c =
     elim c.if-found-letter.branch [
-      | then-found-letter+then-index-eq0 w ↦ rw (w.at_odd-is, w.at_even-is) (found_at_odd _ _ _ _ _ c.loop-index-test.true w.if-found-letter.true w.if-index-eq0.true c.loop-index.invariant)
-      | then-found-letter+else-index-eq0 w ↦ rw (w.at_odd-is, w.at_even-is) (found_at_even _ _ _ _ _ c.loop-index-test.true w.if-found-letter.true w.if-index-eq0.false c.loop-index.invariant)
+      | then-found-letter+then-index-eq0 w ↦ rw (w.at_odd-is, w.at_even-is)
+          (found_at_odd _ _ _ _ _ c.loop-index-test.true w.if-found-letter.true w.if-index-eq0.true c.loop-index.invariant)
+      | then-found-letter+else-index-eq0 w ↦ rw (w.at_odd-is, w.at_even-is)
+          (found_at_even _ _ _ _ _ c.loop-index-test.true w.if-found-letter.true w.if-index-eq0.false c.loop-index.invariant)
       | else-found-letter w ↦ rw (w.at_odd-is, w.at_even-is) (another_letter _ _ _ _ _ c.loop-index-test.true w.if-found-letter.false c.loop-index.invariant)
     ]
 

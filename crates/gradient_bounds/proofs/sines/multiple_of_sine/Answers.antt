@@ -9,7 +9,9 @@ scale-requires g c =
     let at = c.args.at.now in
     let t = c.args.term.now in
     let turn = turn_computed t.dir at c.turn_numerator.result c.requires.angles c.turn_numerator.ensures.size c.turn_numerator.ensures.turn in
-    let is = term_computed g.S.Scale.BITS (first_angle at) (second_angle at) t c.turn.result _ c.sine.result g.S.Scale.bits_in_range.1 c.requires.light c.turn.ensures.sine turn c.sine.ensures.encloses c.sine.ensures.width c.sine.ensures.size in
+    let is = term_computed g.S.Scale.BITS (first_angle at)
+    (second_angle at) t c.turn.result _ c.sine.result g.S.Scale.bits_in_range.1 c.requires.light c.turn.ensures.sine turn c.sine.ensures.encloses
+    c.sine.ensures.width c.sine.ensures.size in
     term_within g.S.Scale.BITS (first_angle at) (second_angle at) t (kept_multiple t.c c.sine.result) c.requires.light is
 
 pub returns-clause-encloses : goal.returns-clause-encloses
@@ -17,7 +19,9 @@ returns-clause-encloses g c =
     let at = c.args.at.now in
     let t = c.args.term.now in
     let turn = turn_computed t.dir at c.turn_numerator.result c.requires.angles c.turn_numerator.ensures.size c.turn_numerator.ensures.turn in
-    let is = term_computed g.S.Scale.BITS (first_angle at) (second_angle at) t c.turn.result _ c.sine.result g.S.Scale.bits_in_range.1 c.requires.light c.turn.ensures.sine turn c.sine.ensures.encloses c.sine.ensures.width c.sine.ensures.size in
+    let is = term_computed g.S.Scale.BITS (first_angle at)
+    (second_angle at) t c.turn.result _ c.sine.result g.S.Scale.bits_in_range.1 c.requires.light c.turn.ensures.sine turn c.sine.ensures.encloses
+    c.sine.ensures.width c.sine.ensures.size in
     (subst (IsTermAt g.S.Scale.BITS (first_angle at) (second_angle at) t) (sym c.scale.ensures.ends) is).encloses
 
 pub returns-clause-width : goal.returns-clause-width
@@ -25,7 +29,9 @@ returns-clause-width g c =
     let at = c.args.at.now in
     let t = c.args.term.now in
     let turn = turn_computed t.dir at c.turn_numerator.result c.requires.angles c.turn_numerator.ensures.size c.turn_numerator.ensures.turn in
-    let is = term_computed g.S.Scale.BITS (first_angle at) (second_angle at) t c.turn.result _ c.sine.result g.S.Scale.bits_in_range.1 c.requires.light c.turn.ensures.sine turn c.sine.ensures.encloses c.sine.ensures.width c.sine.ensures.size in
+    let is = term_computed g.S.Scale.BITS (first_angle at)
+    (second_angle at) t c.turn.result _ c.sine.result g.S.Scale.bits_in_range.1 c.requires.light c.turn.ensures.sine turn c.sine.ensures.encloses
+    c.sine.ensures.width c.sine.ensures.size in
     (subst (IsTermAt g.S.Scale.BITS (first_angle at) (second_angle at) t) (sym c.scale.ensures.ends) is).width
 
 pub returns-clause-size : goal.returns-clause-size
@@ -33,5 +39,7 @@ returns-clause-size g c =
     let at = c.args.at.now in
     let t = c.args.term.now in
     let turn = turn_computed t.dir at c.turn_numerator.result c.requires.angles c.turn_numerator.ensures.size c.turn_numerator.ensures.turn in
-    let is = term_computed g.S.Scale.BITS (first_angle at) (second_angle at) t c.turn.result _ c.sine.result g.S.Scale.bits_in_range.1 c.requires.light c.turn.ensures.sine turn c.sine.ensures.encloses c.sine.ensures.width c.sine.ensures.size in
+    let is = term_computed g.S.Scale.BITS (first_angle at)
+    (second_angle at) t c.turn.result _ c.sine.result g.S.Scale.bits_in_range.1 c.requires.light c.turn.ensures.sine turn c.sine.ensures.encloses
+    c.sine.ensures.width c.sine.ensures.size in
     (subst (IsTermAt g.S.Scale.BITS (first_angle at) (second_angle at) t) (sym c.scale.ensures.ends) is).size

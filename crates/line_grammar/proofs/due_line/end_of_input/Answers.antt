@@ -15,7 +15,8 @@ returns-in_err-next-clause-stops g c =
     let new = c.next.follows.lender-at-none in
     let a = left c.args.src.now in
     let b = left c.next.new.src in
-    let same = MatchResult-at_err (λ (line : Line). HandsOut old new a b (next_of line)) (λ (_ : Failed). IsUnchanged old new a b) c.in_err-next.field-0.0 c.in_err-next.was
+    let same = MatchResult-at_err (λ (line : Line). HandsOut old new a b (next_of line))
+    (λ (_ : Failed). IsUnchanged old new a b) c.in_err-next.field-0.0 c.in_err-next.was
     c.next.follows.holds-at-none in
     stops_before old new a b c.requires.reading c.next.ensures.ahead same
 
@@ -26,7 +27,8 @@ returns-in_err-next-clause-reads g c =
     let new = c.next.follows.lender-at-none in
     let a = left c.args.src.now in
     let b = left c.next.new.src in
-    let same = MatchResult-at_err (λ (line : Line). HandsOut old new a b (next_of line)) (λ (_ : Failed). IsUnchanged old new a b) c.in_err-next.field-0.0 c.in_err-next.was
+    let same = MatchResult-at_err (λ (line : Line). HandsOut old new a b (next_of line))
+    (λ (_ : Failed). IsUnchanged old new a b) c.in_err-next.field-0.0 c.in_err-next.was
     c.next.follows.holds-at-none in
     let p = err_from_is_err_and c.from_residual.result c.from_residual.ensures.1 in
     rw (p.1, p.2) (record { due = tt; reached = tt; stops = stops_before old new a b c.requires.reading c.next.ensures.ahead same })
@@ -38,7 +40,8 @@ returns-in-End-clause-stops g c =
     let new = c.next.follows.lender-at-none in
     let a = left c.args.src.now in
     let b = left c.next.new.src in
-    let hands = MatchResult-at_ok (λ (line : Line). HandsOut old new a b (next_of line)) (λ (_ : Failed). IsUnchanged old new a b) c.in_ok-next.field-0 c.in_ok-next.was
+    let hands = MatchResult-at_ok (λ (line : Line). HandsOut old new a b (next_of line))
+    (λ (_ : Failed). IsUnchanged old new a b) c.in_ok-next.field-0 c.in_ok-next.was
     c.next.follows.holds-at-none in
     stops_here old new a b (next_of c.in_ok-next.field-0) c.requires.reading c.next.ensures.ahead hands
 
@@ -49,7 +52,8 @@ returns-in-Text-clause-stops g c =
     let new = c.next.follows.lender-at-none in
     let a = left c.args.src.now in
     let b = left c.next.new.src in
-    let hands = MatchResult-at_ok (λ (line : Line). HandsOut old new a b (next_of line)) (λ (_ : Failed). IsUnchanged old new a b) c.in_ok-next.field-0 c.in_ok-next.was
+    let hands = MatchResult-at_ok (λ (line : Line). HandsOut old new a b (next_of line))
+    (λ (_ : Failed). IsUnchanged old new a b) c.in_ok-next.field-0 c.in_ok-next.was
     c.next.follows.holds-at-none in
     stops_here old new a b (next_of c.in_ok-next.field-0) c.requires.reading c.next.ensures.ahead hands
 
@@ -72,6 +76,8 @@ returns-in-Text-clause-reads g c =
     let new = c.next.follows.lender-at-none in
     let a = left c.args.src.now in
     let b = left c.next.new.src in
-    let hands = MatchResult-at_ok (λ (line : Line). HandsOut old new a b (next_of line)) (λ (_ : Failed). IsUnchanged old new a b) c.in_ok-next.field-0 c.in_ok-next.was
+    let hands = MatchResult-at_ok (λ (line : Line). HandsOut old new a b (next_of line))
+    (λ (_ : Failed). IsUnchanged old new a b) c.in_ok-next.field-0 c.in_ok-next.was
     c.next.follows.holds-at-none in
-    goes_on old new a b c.in_ok-next.field-0 (c.number-line.result + 1) (ap (λ n. n + 1) c.number-line.ensures) c.requires.reading c.next.ensures.ahead hands c.in-Text.is
+    goes_on old new a b c.in_ok-next.field-0 (c.number-line.result + 1)
+    (ap (λ n. n + 1) c.number-line.ensures) c.requires.reading c.next.ensures.ahead hands c.in-Text.is

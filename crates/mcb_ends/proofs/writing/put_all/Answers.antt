@@ -9,5 +9,6 @@ returns-in_err-put-clause-text g c =
     let pieces = c.args.pieces.now in
     let old = k.written c.args.out.now in
     let new = k.written c.put.new.out in
-    let begun = AppendsPrefix-flat_map (λ (piece : Bor (List ℕ)). piece.now) old (k.written c.loop-piece.out) new pieces c.loop-piece.piece-index (record { ref_ptr = (0, 0); now = [] }) c.loop-piece-test.true c.loop-piece.invariant.text c.in_err-put.ensures.text in
+    let begun = AppendsPrefix-flat_map (λ (piece : Bor (List ℕ)). piece.now) old (k.written c.loop-piece.out) new pieces c.loop-piece.piece-index
+    (record { ref_ptr = (0, 0); now = [] }) c.loop-piece-test.true c.loop-piece.invariant.text c.in_err-put.ensures.text in
     Writes-failed old new c.from_residual.result _ c.from_residual.ensures.0 begun

@@ -8,6 +8,7 @@ loop-k-preserved c =
 
 pub returns-else-is_lt : goal.returns-else-is_lt
 returns-else-is_lt c = (
-  λ _ m number. below_more _ _ c.loop-k.invariant (λ _. at_least_by_test _ _ _ _ c.if-is_lt.false c.is_lt.ensures c.side_of_edge.ensures) m (omega arith) number,
+  λ _ m number. below_more _ _ c.loop-k.invariant (λ _. at_least_by_test _ _ _ _ c.if-is_lt.false c.is_lt.ensures c.side_of_edge.ensures) m
+      (omega arith) number,
   λ _. refl,
 )

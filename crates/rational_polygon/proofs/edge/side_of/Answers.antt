@@ -29,4 +29,5 @@ returns c =
     ∙ ap₂ ◌*ℤ◌ (ap₂ ◌*ℤ◌ c.steps.ensures.value c.offset.ensures.value) c.den.ensures.value)
     (second_kept c.steps-2.result c.offset-2.result c.den-2.result c.steps-2.ensures.small c.offset-2.ensures.small right_small
     ∙ ap₂ ◌*ℤ◌ (ap₂ ◌*ℤ◌ c.steps-2.ensures.value c.offset-2.ensures.value) c.den-2.ensures.value)
-    ∙ int_cmp-products c.args.grid c.args.a c.args.b c.args.x.now.num c.args.y.now.num c.args.x.now.den c.args.y.now.den (omega arith) c.den.ensures.positive c.den-2.ensures.positive
+    ∙ int_cmp-products c.args.grid c.args.a c.args.b c.args.x.now.num c.args.y.now.num c.args.x.now.den c.args.y.now.den
+    (omega arith) c.den.ensures.positive c.den-2.ensures.positive

@@ -10,7 +10,11 @@ returns-in-Some c =
       edge = record { at_least = c.loop-i.auto.i; at_most = c.loop-i-test.true };
       corner = found.0;
       turned = found.1;
-      earlier = λ k l edge corner before. elim before [ inl lt ↦ c.loop-i.invariant k lt edge l corner | inr h ↦ subst (λ t. IsConvexAt outline t l) (sym h.0) (found.2 l corner h.1) ];
+      earlier = λ k l edge corner before. elim before [
+        | inl lt ↦ c.loop-i.invariant k lt edge l corner
+        | inr h ↦ subst (λ t. IsConvexAt outline t l)
+            (sym h.0) (found.2 l corner h.1)
+      ];
     }
 
 pub loop-i-preserved : goal.loop-i-preserved

@@ -21,7 +21,8 @@ new-requires g c =
     let inside : Ends = record { lo = c.self.inside.lo; hi = c.self.inside.hi } in
     let interval : IsInterval ends =
     record {
-      in_order = rounded_in_order c.div.result c.self.inside.lo c.div-2.result c.self.inside.hi c.args.d c.requires.positive floor ceiling c.self.invariant.in_order;
+      in_order = rounded_in_order c.div.result c.self.inside.lo c.div-2.result c.self.inside.hi c.args.d c.requires.positive floor ceiling
+          c.self.invariant.in_order;
       in_range = quotient_not_larger inside ends c.args.d (2 ^ 100) c.requires.positive floor ceiling c.self.invariant.in_range;
     }
     in
@@ -42,4 +43,5 @@ returns-clause-quotients g c =
     let is : c.new.result ≡ ends = simp to_z-of_z at c.new.ensures in
     λ v h.
     subst (λ x. Encloses bits x v) (sym is)
-    (quotient_encloses bits inside ends c.args.d v c.requires.positive floor ceiling (subst (λ x. Encloses bits x (v *ℚ (c.args.d ÷ 1))) (sym c.self.view_is) h))
+    (quotient_encloses bits inside ends c.args.d v c.requires.positive floor ceiling
+    (subst (λ x. Encloses bits x (v *ℚ (c.args.d ÷ 1))) (sym c.self.view_is) h))

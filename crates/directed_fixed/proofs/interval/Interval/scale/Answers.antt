@@ -51,4 +51,5 @@ returns-clause-ends g c =
 
 pub returns-clause-multiples : goal.returns-clause-multiples
 returns-clause-multiples g c =
-    λ u h. subst (λ x. Encloses g.S.Scale.BITS x (c.args.c ÷ 1 *ℚ u)) (sym (returns-clause-ends g c)) (multiple_encloses g.S.Scale.BITS c.args.c c.args.self u h)
+    λ u h. subst (λ x. Encloses g.S.Scale.BITS x (c.args.c ÷ 1 *ℚ u)) (sym (returns-clause-ends g c))
+    (multiple_encloses g.S.Scale.BITS c.args.c c.args.self u h)

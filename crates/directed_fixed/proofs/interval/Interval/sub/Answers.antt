@@ -33,4 +33,5 @@ returns-clause-ends g c =
 
 pub returns-clause-differences : goal.returns-clause-differences
 returns-clause-differences g c =
-    λ u v h k. subst (λ x. Encloses g.S.Scale.BITS x (u -ℚ v)) (sym (returns-clause-ends g c)) (difference_encloses g.S.Scale.BITS c.args.self c.args.other u v h k)
+    λ u v h k. subst (λ x. Encloses g.S.Scale.BITS x (u -ℚ v)) (sym (returns-clause-ends g c))
+    (difference_encloses g.S.Scale.BITS c.args.self c.args.other u v h k)

@@ -20,7 +20,8 @@ new-requires g c =
     let interval : IsInterval ends =
     record {
       in_order = products_in_order c.args.self c.args.other ends (2 ^ bits) (pow_pos bits) c.outer_product.ensures c.outer_product-2.ensures;
-      in_range = product_within c.args.self c.args.other ends (2 ^ bits) (2 ^ 62) (2 ^ 62) (2 ^ 100) (pow_pos bits) c.outer_product.ensures c.outer_product-2.ensures
+      in_range = product_within c.args.self c.args.other ends (2 ^ bits) (2 ^ 62) (2 ^ 62) (2 ^ 100)
+          (pow_pos bits) c.outer_product.ensures c.outer_product-2.ensures
           c.requires.first_factor c.requires.second_factor (omega (arith, room));
     }
     in
@@ -33,4 +34,5 @@ returns-clause-products g c =
     let high : FitsSigned w128 c.outer_product-2.result = record { sfits = c.outer_product-2.type_inv } in
     let ends : Ends = record { lo = c.outer_product.result; hi = c.outer_product-2.result } in
     let is : c.new.result ≡ ends = simp to_z-of_z at c.new.ensures in
-    λ u v h k. subst (λ x. Encloses bits x (u *ℚ v)) (sym is) (product_encloses bits c.args.self c.args.other ends u v c.outer_product.ensures c.outer_product-2.ensures h k)
+    λ u v h k. subst (λ x. Encloses bits x (u *ℚ v)) (sym is)
+    (product_encloses bits c.args.self c.args.other ends u v c.outer_product.ensures c.outer_product-2.ensures h k)

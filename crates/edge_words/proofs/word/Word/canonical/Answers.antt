@@ -11,7 +11,10 @@ returns-then-lt c =
     let w = c.args.self.now in
     let forwards = c.least_rotation-forwards.result in
     let backwards = c.least_rotation-backwards.result in
-    let tells : c.lt.result ≡ is_lt (slice_cmp nat_cmp backwards forwards) = c.lt.ensures ∙ is_lt-from_partial c.letters.result.now c.letters-2.result.now ∙ ap (λ v. is_lt (slice_cmp nat_cmp v c.letters-2.result.now)) c.letters.ensures.all ∙ ap (λ v. is_lt (slice_cmp nat_cmp backwards v)) c.letters-2.ensures.all in
+    let tells : c.lt.result ≡ is_lt (slice_cmp nat_cmp backwards forwards) = c.lt.ensures
+    ∙ is_lt-from_partial c.letters.result.now c.letters-2.result.now
+    ∙ ap (λ v. is_lt (slice_cmp nat_cmp v c.letters-2.result.now)) c.letters.ensures.all
+    ∙ ap (λ v. is_lt (slice_cmp nat_cmp backwards v)) c.letters-2.ensures.all in
     least_of_both w backwards forwards backwards
     (inr (subst (λ v. IsRotation v backwards) c.reverse.ensures c.least_rotation-backwards.ensures.rotation))
     (at_most_where_less backwards forwards (sym tells ∙ c.if-lt.true))
@@ -24,7 +27,10 @@ returns-else-lt c =
     let w = c.args.self.now in
     let forwards = c.least_rotation-forwards.result in
     let backwards = c.least_rotation-backwards.result in
-    let tells : c.lt.result ≡ is_lt (slice_cmp nat_cmp backwards forwards) = c.lt.ensures ∙ is_lt-from_partial c.letters.result.now c.letters-2.result.now ∙ ap (λ v. is_lt (slice_cmp nat_cmp v c.letters-2.result.now)) c.letters.ensures.all ∙ ap (λ v. is_lt (slice_cmp nat_cmp backwards v)) c.letters-2.ensures.all in
+    let tells : c.lt.result ≡ is_lt (slice_cmp nat_cmp backwards forwards) = c.lt.ensures
+    ∙ is_lt-from_partial c.letters.result.now c.letters-2.result.now
+    ∙ ap (λ v. is_lt (slice_cmp nat_cmp v c.letters-2.result.now)) c.letters.ensures.all
+    ∙ ap (λ v. is_lt (slice_cmp nat_cmp backwards v)) c.letters-2.ensures.all in
     least_of_both w forwards forwards backwards
     (inl c.least_rotation-forwards.ensures.rotation)
     (at_most_itself forwards)

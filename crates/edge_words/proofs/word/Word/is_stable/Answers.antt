@@ -9,7 +9,8 @@ returns-then-is_balanced-2 c =
     let all = c.letters-letters.ensures.all in
     elim c.if-is_balanced.branch [
       | then-is_balanced w ↦ (
-        λ third. subst IsStable all (stable_from_letters c.letters-letters.result.now (c.is_balanced.ensures.0 w.if-is_balanced.true) (w.is_balanced-then-is_balanced.ensures.0 (sym w.value-is ∙ c.if-is_balanced-2.true)) (c.is_balanced-then-is_balanced-2.ensures.0 third)),
+        λ third. subst IsStable all (stable_from_letters c.letters-letters.result.now (c.is_balanced.ensures.0 w.if-is_balanced.true)
+            (w.is_balanced-then-is_balanced.ensures.0 (sym w.value-is ∙ c.if-is_balanced-2.true)) (c.is_balanced-then-is_balanced-2.ensures.0 third)),
         λ stable. c.is_balanced-then-is_balanced-2.ensures.1 (subst (IsBalanced 3) (sym all) (stable 3 (omega arith, omega arith))),
       )
       | else-is_balanced w ↦ cc

@@ -22,9 +22,11 @@ loop-by-preserved c =
     let w = c.letters-letters.result.now in
     let v = c.loop-by.least in
     let n = c.loop-by.by in
-    let tells : c.is_lt.result ≡ is_lt (slice_cmp nat_cmp (rotated n w) v) = c.is_lt.ensures ∙ ap is_lt (c.compare_rotated.ensures ∙ ap (slice_cmp nat_cmp (rotated n w)) c.letters.ensures.all) in
+    let tells : c.is_lt.result ≡ is_lt (slice_cmp nat_cmp (rotated n w) v) = c.is_lt.ensures
+    ∙ ap is_lt (c.compare_rotated.ensures ∙ ap (slice_cmp nat_cmp (rotated n w)) c.letters.ensures.all) in
     elim c.if-is_lt.branch [
-      | then-is_lt b ↦ least_replaced w v c.if-is_lt.least n (omega arith) (sym tells ∙ b.if-is_lt.true) (b.least-is ∙ b.rotate-least.ensures ∙ ap (rotated n) (sym all)) c.loop-by.invariant
+      | then-is_lt b ↦ least_replaced w v c.if-is_lt.least n (omega arith) (sym tells ∙ b.if-is_lt.true)
+          (b.least-is ∙ b.rotate-least.ensures ∙ ap (rotated n) (sym all)) c.loop-by.invariant
       | else-is_lt b ↦ subst (λ x. IsLeastBelow w x (n + 1)) (sym b.least-is) (least_kept w v n (sym tells ∙ b.if-is_lt.false) c.loop-by.invariant)
     ]
 

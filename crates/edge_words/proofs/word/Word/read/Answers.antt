@@ -4,7 +4,8 @@ use Rattle.edge_words.proofs.word.Word.read.Goals as goal
 
 pub invariant_of-result : goal.invariant_of-result
 invariant_of-result c =
-    word_of_digits _ _ c.letters_of.ensures c.in_default.ensures (record { even = omega arith; at_least = omega arith; at_most = omega arith }) c.in_default-first_repeat.ensures
+    word_of_digits _ _ c.letters_of.ensures c.in_default.ensures
+    (record { even = omega arith; at_least = omega arith; at_most = omega arith }) c.in_default-first_repeat.ensures
 
 pub returns : goal.returns
 returns c = record {

@@ -8,4 +8,5 @@ pub invariant_of-result : goal.invariant_of-result
 invariant_of-result c =
     let whole = c.as_mut_slice.ensures.value ∙ c.own_letters-letters.ensures.all in
     let turned : c.reverse.new.self ≡ reverse c.args.self.now = c.reverse.ensures.after ∙ ap reverse whole in
-    subst IsWord (sym (take_at _ _ _ (c.reverse.ensures.len ∙ ap length c.as_mut_slice.ensures.value) ∙ turned)) (IsWord-reverse _ c.own_letters-letters.ensures.is_word)
+    subst IsWord (sym (take_at _ _ _ (c.reverse.ensures.len ∙ ap length c.as_mut_slice.ensures.value) ∙ turned))
+    (IsWord-reverse _ c.own_letters-letters.ensures.is_word)

@@ -9,4 +9,5 @@ pub invariant_of-result : goal.invariant_of-result
 invariant_of-result c =
     let whole = c.as_mut_slice.ensures.value ∙ c.own_letters-letters.ensures.all in
     let turned : c.rotate_left.new.self ≡ rotated c.args.by c.args.self.now = c.rotate_left.ensures.after ∙ ap (rotated c.args.by) whole in
-    subst IsWord (sym (take_at _ _ _ (c.rotate_left.ensures.len ∙ ap length c.as_mut_slice.ensures.value) ∙ turned)) (IsWord-rotated _ _ c.requires c.own_letters-letters.ensures.is_word)
+    subst IsWord (sym (take_at _ _ _ (c.rotate_left.ensures.len ∙ ap length c.as_mut_slice.ensures.value) ∙ turned))
+    (IsWord-rotated _ _ c.requires c.own_letters-letters.ensures.is_word)

@@ -19,7 +19,8 @@ returns-then-not-are_clear-clause-found g c =
     let rows : List (Vec FormalPoint) = c.self.inside.rows.items in
     let same : c.deref-row-items.result.now ≡ rows = c.deref-row-items.ensures.value in
     let below : c.loop-row.row-index < length rows = subst (λ (rs : List (Vec FormalPoint)). c.loop-row.row-index < length rs) same c.loop-row-test.true in
-    let is : row ≡ slice_index_or rows c.loop-row.row-index row = subst (λ (rs : List (Vec FormalPoint)). row ≡ slice_index_or rs c.loop-row.row-index row) same c.row-item.is in
+    let is : row ≡ slice_index_or rows c.loop-row.row-index row = subst
+    (λ (rs : List (Vec FormalPoint)). row ≡ slice_index_or rs c.loop-row.row-index row) same c.row-item.is in
     let all : All P row.items = kept_row_has P c.self.inside.word rows c.loop-row.row-index row c.self.invariant below is each in
     c.if-not-are_clear.ensures.found (subst (All P) (sym c.as_slice.ensures.value) all)
 
@@ -36,6 +37,7 @@ returns-clause-clear g c =
     let P = IsClearIn (ball_of c.args.neighbourhood.now) (slack g.S.Scale.LOW_BITS) in
     let rows : List (Vec FormalPoint) = c.self.inside.rows.items in
     let same : c.deref-row-items.result.now ≡ rows = c.deref-row-items.ensures.value in
-    let passed : All (λ row. All P row.items) c.deref-row-items.result.now = subst (All (λ row. All P row.items)) (take_all c.loop-row.row-index c.deref-row-items.result.now c.loop-row-test.false) c.loop-row.invariant in
+    let passed : All (λ row. All P row.items) c.deref-row-items.result.now = subst (All (λ row. All P row.items))
+    (take_all c.loop-row.row-index c.deref-row-items.result.now c.loop-row-test.false) c.loop-row.invariant in
     let each : EachFunction c.self.inside.word P = each_of_rows P c.self.inside.word rows c.self.invariant (subst (All (λ row. All P row.items)) same passed) in
     subst (λ w. EachFunction w P) c.self.view_is each

@@ -31,7 +31,8 @@ pub invariant_of-result : goal.invariant_of-result
 invariant_of-result g c =
     let w = c.args.word.now in
     let stable : IsStable w = c.is_stable.ensures.0 c.if-not-is_stable.false in
-    prepared_from w c.copied.result c.in_ok-unfolding.unfolding c.in_ok-functions.functions c.in_ok-rows.rows.items c.copied.ensures c.in_ok-unfolding.ensures.word c.in_ok-functions.ensures.word
+    prepared_from w c.copied.result c.in_ok-unfolding.unfolding c.in_ok-functions.functions c.in_ok-rows.rows.items c.copied.ensures
+    c.in_ok-unfolding.ensures.word c.in_ok-functions.ensures.word
     (subst IsWord c.unfolding.view_is c.unfolding.invariant.word) stable c.in_ok-rows.ensures
 
 pub returns-clause-stable : goal.returns-clause-stable

@@ -15,7 +15,8 @@ returns-clause-clear g c =
 pub returns-clause-found : goal.returns-clause-found
 returns-clause-found g c =
     λ clear. c.is_clear_in.ensures.found
-    (subst (λ b. EachFunction c.args.self.now (IsClearIn b (slack g.S.Scale.HIGH_BITS))) (sym c.point.ensures.ball) (clear_in_point c.args.self.now (value c.args.x) (value c.args.y) (slack g.S.Scale.HIGH_BITS) clear))
+    (subst (λ b. EachFunction c.args.self.now (IsClearIn b (slack g.S.Scale.HIGH_BITS))) (sym c.point.ensures.ball)
+    (clear_in_point c.args.self.now (value c.args.x) (value c.args.y) (slack g.S.Scale.HIGH_BITS) clear))
 
 pub returns-clause-corridor : goal.returns-clause-corridor
 returns-clause-corridor g c =

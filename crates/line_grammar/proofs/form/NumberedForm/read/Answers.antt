@@ -13,7 +13,8 @@ returns-in_default-read_decimal c =
     let line = c.args.line.now in
     let name = c.args.self.now.name.now in
     let number = c.in-Some.number.now in
-    let fields : IsTwoFields line name number = subst (λ (n : List ℕ). IsTwoFields line n number) (same_name name c.in-Some.name.now c.ne.result c.ne.ensures c.if-ne.false) c.in-Some.ensures.found in
+    let fields : IsTwoFields line name number = subst (λ (n : List ℕ). IsTwoFields line n number)
+    (same_name name c.in-Some.name.now c.ne.result c.ne.ensures c.if-ne.false) c.in-Some.ensures.found in
     let low : c.args.self.now.low ≤ c.in-Some-read_decimal.number → ⊥ = λ at_least. omega (arith, at_least, c.if-number-self.false) in (
       (number, fields),
       number_not_read line name number c.read_decimal.result c.args.self.now.low c.args.self.now.high fields c.read_decimal.ensures.some
@@ -25,7 +26,8 @@ returns-in_default-read_decimal-2 c =
     let line = c.args.line.now in
     let name = c.args.self.now.name.now in
     let number = c.in-Some.number.now in
-    let fields : IsTwoFields line name number = subst (λ (n : List ℕ). IsTwoFields line n number) (same_name name c.in-Some.name.now c.ne.result c.ne.ensures c.if-ne.false) c.in-Some.ensures.found in
+    let fields : IsTwoFields line name number = subst (λ (n : List ℕ). IsTwoFields line n number)
+    (same_name name c.in-Some.name.now c.ne.result c.ne.ensures c.if-ne.false) c.in-Some.ensures.found in
     let unread = c.in_default-read_decimal.is in (
       (number, fields),
       number_not_read line name number c.read_decimal.result c.args.self.now.low c.args.self.now.high fields c.read_decimal.ensures.some

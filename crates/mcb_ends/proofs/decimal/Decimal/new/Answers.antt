@@ -7,7 +7,8 @@ pub put_first-requires : goal.put_first-requires
 put_first-requires c = digits_fit c.args.n c.loop-rest.rest c.loop-rest.text (omega arith) (omega arith) c.loop-rest.invariant
 
 pub loop-rest-preserved : goal.loop-rest-preserved
-loop-rest-preserved c = next_digit c.args.n c.loop-rest.rest c.loop-rest.text (omega arith) (omega arith) c.loop-rest.invariant ∙ ap (λ (digits : List ℕ). decimal (c.loop-rest.rest / 10) ++ digits) (sym c.put_first.ensures)
+loop-rest-preserved c = next_digit c.args.n c.loop-rest.rest c.loop-rest.text (omega arith) (omega arith) c.loop-rest.invariant
+    ∙ ap (λ (digits : List ℕ). decimal (c.loop-rest.rest / 10) ++ digits) (sym c.put_first.ensures)
 
 pub put_first-requires-2 : goal.put_first-requires-2
 put_first-requires-2 c = digits_fit c.args.n c.loop-rest.rest c.loop-rest.text (omega arith) (omega arith) c.loop-rest.invariant

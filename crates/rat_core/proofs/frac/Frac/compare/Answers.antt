@@ -18,4 +18,5 @@ returns c =
     let ef : FitsSigned w128 e = small_fits e e_small in
     let left : FitsSigned w128 (n *ℤ e) = product_fits n e c.self.invariant.0 e_small in
     let right : FitsSigned w128 (m *ℤ d) = product_fits m d c.other.invariant.0 d_small in
-    rw (← c.self.view_is, ← c.other.view_is) (◌∙◌ {b = int_cmp (n *ℤ e) (m *ℤ d)} (simp to_z-of_z at c.cmp.ensures) (order_of_written n m d e c.self.invariant.1 c.other.invariant.1))
+    rw (← c.self.view_is, ← c.other.view_is) (◌∙◌ {b = int_cmp (n *ℤ e) (m *ℤ d)} (simp to_z-of_z at c.cmp.ensures)
+    (order_of_written n m d e c.self.invariant.1 c.other.invariant.1))

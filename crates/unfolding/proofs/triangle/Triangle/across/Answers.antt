@@ -29,7 +29,8 @@ returns c =
     IfOk-weaker c.round.result _ _
     (λ t is w same. is (w ++ c.args.edge ∷ [])
     (next_centre_is w c.args.edge c.next_corner-start.result c.next_corner-end.result c.args.self.now _ _ c.in_ok-half_way.half_way c.in_ok-centre.centre
-    c.next_corner-start.ensures.next c.next_corner-end.ensures.next c.next_corner-start.ensures.corner c.next_corner-end.ensures.corner same c.in_ok-half_way.ensures c.in_ok-centre.ensures)
+    c.next_corner-start.ensures.next c.next_corner-end.ensures.next c.next_corner-start.ensures.corner c.next_corner-end.ensures.corner same
+    c.in_ok-half_way.ensures c.in_ok-centre.ensures)
     (ap (λ t. not t.minus) same ∙ sym (is_reversed-snoc w c.args.edge))
     (c.dirs_across.ensures.dirs w (ap (λ t. t.dirs) same)))
     c.round.ensures

@@ -8,7 +8,8 @@ use Rattle.unfolding.proofs.KeptTriangles.{kept_triangle, dir-at, seen_is, minus
 use Rattle.unfolding.proofs.unfolding.Unfolding.seen.Goals as goal
 
 triangle_is : (c : goal.After-result-1) → c.index-triangle.result.now ≡ triangle_of (take c.args.k c.args.self.now)
-triangle_is c = kept_triangle _ c.args.self.now _ c.args.k c.index-triangle.result.now c.self.view_is c.self.invariant c.requires.within c.index-triangle.ensures
+triangle_is c = kept_triangle _ c.args.self.now _ c.args.k c.index-triangle.result.now c.self.view_is c.self.invariant c.requires.within
+    c.index-triangle.ensures
 
 pub returns-clause-corner : goal.returns-clause-corner
 returns-clause-corner c = seen_is c.args.self.now c.args.k c.args.corner c.index-triangle.result.now _ (triangle_is c) c.requires.corner
