@@ -55,11 +55,11 @@ at_answers_differ_between argument text text' triangle Malformed Malformed first
     inl (refl, first.named ∙ ap argument_text (word_is_form.one_reason argument first.reason second.reason first.refused second.refused) ∙ sym second.named)
 at_answers_differ_between argument text text' triangle Done NotShown first second some more =
     let not_clear = subst (λ (w : List ℕ). ¬ (AtTriangle triangle (λ x y. IsClearAtPoint w x y sure.gradient)))
-          (one_spelling argument first.word second.word first.spells second.spells) second.not_clear in
+    (one_spelling argument first.word second.word first.spells second.spells) second.not_clear in
     inr (record { word = first.word; spells = first.spells; corridor = first.corridor; not_clear = not_clear })
 at_answers_differ_between argument text text' triangle NotShown Done first second some more =
     let not_clear = subst (λ (w : List ℕ). ¬ (AtTriangle triangle (λ x y. IsClearAtPoint w x y sure.gradient)))
-          (one_spelling argument second.word first.word second.spells first.spells) first.not_clear in
+    (one_spelling argument second.word first.word second.spells first.spells) first.not_clear in
     inr (record { word = second.word; spells = second.spells; corridor = second.corridor; not_clear = not_clear })
 at_answers_differ_between argument text text' triangle Done Malformed first second some more =
     absurd (not_refused argument first.word second.reason first.spells first.corridor.stable second.refused)

@@ -25,7 +25,7 @@ use Rattle.billiards_cli.proofs.WordArguments.{any_word_is_form}
 pub word_is_not_refused : (input w : List ℕ) (line : ℕ) (reason : Reason) → IsWordLine input w → IsRefusedWord input line reason → ⊥
 word_is_not_refused input w line reason is refused =
     let never : NeverOffends word_input Any [] =
-          text_never (line_part any_word) Any (line_is_one any_word any_word_is_form) (line_never any_word any_word_is_form Any) in
+    text_never (line_part any_word) Any (line_is_one any_word any_word_is_form) (line_never any_word any_word_is_form Any) in
     let same = is.text ∙ sym (append-nil (text_of (word_input.lines_of w))) in
     never w line reason is.says tt (subst (λ (xs : List ℕ). IsFirstOffence word_input.grammar xs line reason) same refused)
 

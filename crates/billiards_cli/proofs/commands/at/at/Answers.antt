@@ -10,7 +10,13 @@ use Rattle.billiards_cli.proofs.commands.at.at.Goals as goal
 pub returns-in-Ok-true-clause-serves : goal.returns-in-Ok-true-clause-serves
 returns-in-Ok-true-clause-serves g c = λ left faults.
     let is : c.is_open.result ≡ Ok true = c.in-Ok-true.is ∙ ap (λ (b : Bool). Ok b) c.in-Ok-true.field-0-test in
-    let right : ShowsOpen c.args.argument.now c.args.triangle.now open_text = record { word = c.in-Ok.word; spells = record { is_word = c.in-Ok.ensures.0.word; digits = c.in-Ok.ensures.1 }; corridor = c.is_open.ensures.«open» is; text_is = refl } in
+    let right : ShowsOpen c.args.argument.now c.args.triangle.now open_text = record {
+      word = c.in-Ok.word;
+      spells = record
+          { is_word = c.in-Ok.ensures.0.word; digits = c.in-Ok.ensures.1 };
+      corridor = c.is_open.ensures.«open» is;
+      text_is = refl;
+    } in
     served _ _ _ Done _ open_text c.put.result tt (at_answer c.args.argument.now c.args.triangle.now left Done open_text right) refl
     c.put.ensures.text c.put.ensures.cause c.after_writing.ensures.after
 
@@ -30,7 +36,13 @@ returns-in-Ok-false-clause-serves g c = λ left faults.
 
 pub returns-in-Ok-clause-serves : goal.returns-in-Ok-clause-serves
 returns-in-Ok-clause-serves g c = λ left faults.
-    let right : AtWantsMemory c.args.argument.now [] = record { word = c.in-Ok.word; spells = record { is_word = c.in-Ok.ensures.0.word; digits = c.in-Ok.ensures.1 }; stable = c.in-Ok.ensures.0.stable; text_is = refl } in
+    let right : AtWantsMemory c.args.argument.now [] = record {
+      word = c.in-Ok.word;
+      spells = record
+          { is_word = c.in-Ok.ensures.0.word; digits = c.in-Ok.ensures.1 };
+      stable = c.in-Ok.ensures.0.stable;
+      text_is = refl;
+    } in
     record {
       leaves = record { answer = at_answer c.args.argument.now c.args.triangle.now left OutOfMemory [] right; unwritten = refl };
       counts = (refl, refl);

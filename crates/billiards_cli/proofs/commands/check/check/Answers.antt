@@ -34,7 +34,7 @@ returns-in-Ok-Refused-clause-serves g c =
     let left' = s.left c.check.new.src in
     let answer = check_answer (s.left c.args.src.now) left' right.0 status text right.1 (refusal_answer right.0 line reason right.2)
     (refusal_reads line reason (s.left c.args.src.now) left'
-        (stops_at checked stops.0 line reason (s.left c.args.src.now) left' stops.1 stops.2)) in
+    (stops_at checked stops.0 line reason (s.left c.args.src.now) left' stops.1 stops.2)) in
     served _ _ _ status _ text c.write_refusal.result (refusal_is_written reason) answer
     c.in-Ok-Refused.ensures.cause c.write_refusal.ensures.text c.write_refusal.ensures.cause
     (c.after_writing-in-Ok-Refused.ensures.after ∙ ap (λ (s : Status). status_after s c.write_refusal.result) c.status_of_refusal.ensures)

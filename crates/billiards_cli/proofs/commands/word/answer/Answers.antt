@@ -27,7 +27,7 @@ returns-in-Ok-clause-serves g c = λ left left' faults faults' may_be ended stoo
     let input = text_of (word_input.lines_of w) in
     let line : IsWordLine input w = record { says = c.requires; text = refl } in
     let writes = subst (λ (u : List ℕ). WritesShift u (k.written c.args.out.now) (k.written c.write_shift_of.new.out) c.write_shift_of.result)
-        c.in-Ok.ensures.word c.write_shift_of.ensures.text in
+    c.in-Ok.ensures.word c.write_shift_of.ensures.text in
     let text = shift_text writes.shift in
     let right : AnswersWord input text = record { word = w; line = line; text_is = inl (writes.shift, writes.is_shift, refl) } in
     served _ _ _ Done _ text c.write_shift_of.result tt (word_answer left left' input Done text may_be right ended) stood

@@ -20,7 +20,7 @@ returns-in_err-word-clause-reads g c =
     let fault = c.in_err-word.field-0.0 in
     let p = err_from_is_err_and c.from_residual.result c.from_residual.ensures.1 in
     let fails = fails_first (line_part any_word) (λ _. end_of_text) old c.take.new.lines (left c.args.src.now) (left c.take.new.src)
-        (refusal_of fault) c.new-lines.ensures.done c.in_err-word.ensures.reads in
+    (refusal_of fault) c.new-lines.ensures.done c.in_err-word.ensures.reads in
     rw (p.1, p.2) (input_fails word_input refusal_of fault old c.take.new.lines (left c.args.src.now) (left c.take.new.src) fresh fails)
 
 pub returns-in_err-end_of_input-clause-reads : goal.returns-in_err-end_of_input-clause-reads
@@ -31,8 +31,8 @@ returns-in_err-end_of_input-clause-reads g c =
     let fault = c.in_err-end_of_input.field-0.0 in
     let p = err_from_is_err_and c.from_residual-in_err-end_of_input.result c.from_residual-in_err-end_of_input.ensures.1 in
     let fails = fails_second (line_part any_word) (λ _. end_of_text) c.in_ok-word.word old c.take.new.lines c.end_of_input.new.lines
-        (left c.args.src.now) (left c.take.new.src) (left c.end_of_input.new.src) (refusal_of fault) c.in_ok-word.ensures.reads
-        c.in_err-end_of_input.ensures.reads in
+    (left c.args.src.now) (left c.take.new.src) (left c.end_of_input.new.src) (refusal_of fault) c.in_ok-word.ensures.reads
+    c.in_err-end_of_input.ensures.reads in
     rw (p.1, p.2) (input_fails word_input refusal_of fault old c.end_of_input.new.lines (left c.args.src.now) (left c.end_of_input.new.src) fresh fails)
 
 pub returns-clause-reads : goal.returns-clause-reads
@@ -41,5 +41,5 @@ returns-clause-reads g c =
     let old = c.new-lines.result in
     let fresh : IsNew old = record { held = c.new-lines.ensures.held; done = c.new-lines.ensures.done; number = c.new-lines.ensures.number } in
     let takes = takes_text (line_part any_word) c.in_ok-word.word old c.take.new.lines (left c.args.src.now) (left c.take.new.src)
-        (left c.end_of_input.new.src) c.in_ok-word.ensures.reads c.in_ok-end_of_input.ensures.reads in
+    (left c.end_of_input.new.src) c.in_ok-word.ensures.reads c.in_ok-end_of_input.ensures.reads in
     input_taken word_input refusal_of c.in_ok-word.word old c.end_of_input.new.lines (left c.args.src.now) (left c.end_of_input.new.src) fresh takes

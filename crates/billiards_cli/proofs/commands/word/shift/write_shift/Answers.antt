@@ -14,7 +14,8 @@ returns-in_err-put-clause-text g c =
     let old = k.written c.args.out.now in
     let new = k.written c.put.new.out in
     let behind = terms_text (terms shift) ++ end_text (length (terms shift)) in
-    Writes-failed old new c.from_residual.result (shift_text shift) c.from_residual.ensures.0 (AppendsPrefix-begun old new (codes "stable\n") behind c.in_err-put.ensures.text)
+    Writes-failed old new c.from_residual.result (shift_text shift) c.from_residual.ensures.0
+    (AppendsPrefix-begun old new (codes "stable\n") behind c.in_err-put.ensures.text)
 
 pub returns-in_err-write_terms-clause-text : goal.returns-in_err-write_terms-clause-text
 returns-in_err-write_terms-clause-text g c =
@@ -41,4 +42,5 @@ returns-clause-text g c =
     let end = end_text (length (terms shift)) in
     let listed = subst (λ (ts : List Term). Appends head body (terms_text ts)) c.terms.ensures.all c.in_ok-write_terms.ensures.text in
     let counted = subst (λ (ts : List Term). Writes body new c.write_end.result (end_text (length ts))) c.terms-2.ensures.all c.write_end.ensures.text in
-    Writes-then old head new c.write_end.result (codes "stable\n") (all ++ end) c.in_ok-put.ensures.text (Writes-then head body new c.write_end.result all end listed counted)
+    Writes-then old head new c.write_end.result (codes "stable\n") (all ++ end) c.in_ok-put.ensures.text
+    (Writes-then head body new c.write_end.result all end listed counted)

@@ -9,7 +9,10 @@ returns-clause-text g c =
     let m_fits : SFits w32 term.dir.m = search rules in
     let n_fits : SFits w32 term.dir.n = search rules in
     let c_fits : SFits w64 term.c = search rules in
-    let m : c.digits.result.now ≡ signed_decimal term.dir.m = c.digits.ensures ∙ c.exponent-m.ensures ∙ ap (λ (z : ℤ). signed_decimal z) (to_z-of_z w32 term.dir.m m_fits) in
-    let n : c.digits-2.result.now ≡ signed_decimal term.dir.n = c.digits-2.ensures ∙ c.exponent-n.ensures ∙ ap (λ (z : ℤ). signed_decimal z) (to_z-of_z w32 term.dir.n n_fits) in
-    let coefficient : c.digits-3.result.now ≡ signed_decimal term.c = c.digits-3.ensures ∙ c.signed-c.ensures ∙ ap (λ (z : ℤ). signed_decimal z) (to_z-of_z w64 term.c c_fits) in
+    let m : c.digits.result.now ≡ signed_decimal term.dir.m = c.digits.ensures ∙ c.exponent-m.ensures
+    ∙ ap (λ (z : ℤ). signed_decimal z) (to_z-of_z w32 term.dir.m m_fits) in
+    let n : c.digits-2.result.now ≡ signed_decimal term.dir.n = c.digits-2.ensures ∙ c.exponent-n.ensures
+    ∙ ap (λ (z : ℤ). signed_decimal z) (to_z-of_z w32 term.dir.n n_fits) in
+    let coefficient : c.digits-3.result.now ≡ signed_decimal term.c = c.digits-3.ensures ∙ c.signed-c.ensures
+    ∙ ap (λ (z : ℤ). signed_decimal z) (to_z-of_z w64 term.c c_fits) in
     rw (← m, ← n, ← coefficient) c.put_all.ensures.text
