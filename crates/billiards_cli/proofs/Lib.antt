@@ -1,5 +1,11 @@
-pub mod Judging
 pub mod Serving
-pub mod ServingCheck
 pub mod Deciding
+pub mod Headlines
 pub mod Numbers
+pub mod Triangles
+pub mod WordArguments
+pub mod Inputs
+pub mod WordAnswers
+pub mod CheckAnswers
+pub mod AtAnswers
+pub mod OneAnswer

@@ -1,9 +1,10 @@
-pub mod Requests
-pub mod Commands
-pub mod Texts
-pub mod WordInput
-pub mod Answers
+pub mod Streams
+pub mod Command
 pub mod Services
-pub mod Verdicts
-pub mod AtVerdicts
+pub mod Arguments
+pub mod Refusals
+pub mod Commands
+pub mod Requests
+pub mod Headline
+pub mod Laws
 pub mod Codes

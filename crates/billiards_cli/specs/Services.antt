@@ -1,82 +1,110 @@
--- What a run does to its source and its sink.
-use Rattle.std.specs.Prelude.{◌≡◌, ℕ, ◌<◌, ◌-◌, ◌^◌, List, [], ⊤, ◌⊎◌, Some}
-use Rattle.std.specs.Bool.{OnTrue}
+-- What a run of a command does to its source and its sink.
+use Rattle.std.specs.Prelude.{◌≡◌, ◌⊎◌, ℕ, ◌+◌, Bool, true, false, List, [], length, ⊤}
 use Rattle.std.specs.declared.option.Option.{Option}
+use Rattle.std.specs.declared.result.Result.{Result}
+use Rattle.std.specs.declared.result.Result.TheVariants.{Ok, Err}
 use Rattle.std.specs.Io.KnownBytes.{Appends, IsAtEnd}
 use Rattle.mcb_ends.specs.Bytes.{AppendsPrefix}
 use Rattle.mcb_ends.specs.Causes.{Rose}
-use Rattle.billiards_cli.specs.Requests.{Request, Word, Check, At, reads_input}
-use Rattle.billiards_cli.specs.WordInput.{IsWordLine}
-use Rattle.billiards_cli.specs.Answers.{IsAnswer, greatest_tree, over}
-use Rattle.covering_file.specs.Input.{MayBe}
-use Rattle.covering_file.specs.Verdicts.{IsSureFile}
-use Rattle.edge_words.specs.Reading.{Spells}
-use Rattle.edge_words.specs.Stable.{IsStable}
-use Rattle.gradient_bounds.specs.Clear.{IsClearAtPoint, slack}
+use Rattle.line_grammar.specs.Input.{MayBe}
+use Rattle.line_grammar.specs.Offence.{Grammar}
+use Rattle.line_grammar.specs.declared.reason.Reason.{Reason}
+use Rattle.cover_checker.specs.Verdicts.{EndsAt}
+use Rattle.billiards_cli.specs.Command.{Reading, Nothing, By, Command}
+use Rattle.billiards_cli.specs.Refusals.{refused_text}
+use Rattle.billiards_cli.specs.Streams.{Streams}
 use Rattle.billiards_cli.specs.declared.status.Status.{Status}
 use Rattle.billiards_cli.specs.declared.status.Status.TheVariants.{Done, NotShown, Usage, Malformed, ReadFault, WriteFault, OutOfMemory, Full}
 
+-- ---- how much was read
+
+-- the line that a refusal names; a text that is empty names none
+abbrev pub MayName : List ℕ → ℕ → Type 0
+MayName text line = (text ≡ []) ⊎ ((reason : Reason) × (text ≡ refused_text line reason))
+
+-- Reading stopped at a due line that is reached, which the text may name: at most one buffer of 4,096 bytes after the lines before it was
+-- read.
+pub record StopsAtNamed (g : Grammar) (text : List ℕ) (left left' : Option (List ℕ)) : Type 0 where
+  pub due : g.Due
+  pub named : MayName text (length (g.lines_before due) + 1)
+  pub ends : EndsAt g due left left'
+
+-- an answer was read for: to the end of the input, or as far as the line that it names
+abbrev pub ReadsFor : Reading → Bool → List ℕ → Option (List ℕ) → Option (List ℕ) → Type 0
+ReadsFor Nothing ends text left left' = ⊤
+ReadsFor (By g) true text left left' = IsAtEnd left'
+ReadsFor (By g) false text left left' = StopsAtNamed g text left left'
+
+-- a read failed: at some due line
+abbrev pub FailsIn : Reading → Option (List ℕ) → Option (List ℕ) → Type 0
+FailsIn Nothing left left' = ⊥
+FailsIn (By g) left left' = (due : g.Due) × EndsAt g due left left'
+
+-- ---- what was written
+
+-- A right answer to the input, or to some input where the source does not tell its own: the status is one that the input may have,
+-- and no more was read than it takes.
+pub record IsAnswer (command : Command) (left left' : Option (List ℕ)) (status : Status) (text : List ℕ) : Type 0 where
+  pub input : List ℕ
+  pub may_be : MayBe left input
+  pub right : command.IsRight input status text
+  pub due : command.IsDue input status
+  pub read : ReadsFor command.reads (command.ends status) text left left'
+
 -- the whole text of a right answer was written
-abbrev pub WritesAnswer : Request → Option (List ℕ) → Status → Option (List ℕ) → Option (List ℕ) → Type 0
-WritesAnswer request input status old new = (text : List ℕ) × IsAnswer request input status text × Appends old new text
+pub record WritesAnswer (command : Command) (before after : Streams) (status : Status) : Type 0 where
+  pub text : List ℕ
+  pub answer : IsAnswer command before.left after.left status text
+  pub written : Appends before.written after.written text
 
 -- a prefix of the text of a right answer was written
-abbrev pub BeginsAnswer : Request → Option (List ℕ) → Option (List ℕ) → Option (List ℕ) → Type 0
-BeginsAnswer request input old new = (status : Status) × (text : List ℕ) × IsAnswer request input status text × AppendsPrefix old new text
+pub record BeginsAnswer (command : Command) (before after : Streams) : Type 0 where
+  pub status : Status
+  pub text : List ℕ
+  pub answer : IsAnswer command before.left after.left status text
+  pub begun : AppendsPrefix before.written after.written text
 
--- what was written, by the status
-abbrev pub TextAfter : Request → Option (List ℕ) → Status → Option (List ℕ) → Option (List ℕ) → Type 0
-TextAfter request input Done old new = WritesAnswer request input Done old new
-TextAfter request input NotShown old new = WritesAnswer request input NotShown old new
-TextAfter request input Malformed old new = WritesAnswer request input Malformed old new
-TextAfter request input Full old new = WritesAnswer request input Full old new
-TextAfter request input OutOfMemory old new = IsAnswer request input OutOfMemory [] × (new ≡ old)
-TextAfter request input WriteFault old new = BeginsAnswer request input old new
-TextAfter request input Usage old new = new ≡ old
-TextAfter request input ReadFault old new = new ≡ old
+-- memory was wanting, where that is a right answer, and nothing was written
+pub record WantsMemory (command : Command) (before after : Streams) : Type 0 where
+  pub answer : IsAnswer command before.left after.left OutOfMemory []
+  pub unwritten : after.written ≡ before.written
 
--- which count of faults rose: the source's before and after, and the sink's
-abbrev pub CountsAfter : Status → ℕ → ℕ → ℕ → ℕ → Type 0
-CountsAfter ReadFault source source' sink sink' = Rose source source' × (sink' ≡ sink)
-CountsAfter WriteFault source source' sink sink' = (source' ≡ source) × Rose sink sink'
-CountsAfter Done source source' sink sink' = (source' ≡ source) × (sink' ≡ sink)
-CountsAfter NotShown source source' sink sink' = (source' ≡ source) × (sink' ≡ sink)
-CountsAfter Usage source source' sink sink' = (source' ≡ source) × (sink' ≡ sink)
-CountsAfter Malformed source source' sink sink' = (source' ≡ source) × (sink' ≡ sink)
-CountsAfter OutOfMemory source source' sink sink' = (source' ≡ source) × (sink' ≡ sink)
-CountsAfter Full source source' sink sink' = (source' ≡ source) × (sink' ≡ sink)
+-- a read failed, and nothing was written
+pub record FailsToRead (command : Command) (before after : Streams) : Type 0 where
+  pub stops : FailsIn command.reads before.left after.left
+  pub unwritten : after.written ≡ before.written
 
--- a command that reads is done at the end of the input
-abbrev pub EndAfter : Request → Status → Option (List ℕ) → Type 0
-EndAfter request Done left = OnTrue (reads_input request) (IsAtEnd left)
-EndAfter request status left = ⊤
+-- ---- a run
 
--- What a run does with a request, by its status: to the bytes that the source has left, to those that the sink has taken, and to the two counts of faults. Each is given before and after.
-pub record Serves (request : Request) (left left' : Option (List ℕ)) (source source' : ℕ) (written written' : Option (List ℕ)) (sink sink' : ℕ) (status : Status) : Type 0 where
-  pub text : TextAfter request left status written written'
-  pub counts : CountsAfter status source source' sink sink'
-  pub end : EndAfter request status left'
+-- what was read and written, by the status; that the arguments ask for nothing is no answer of a command
+abbrev pub Leaves : Command → Streams → Streams → Status → Type 0
+Leaves command before after Done = WritesAnswer command before after Done
+Leaves command before after NotShown = WritesAnswer command before after NotShown
+Leaves command before after Malformed = WritesAnswer command before after Malformed
+Leaves command before after Full = WritesAnswer command before after Full
+Leaves command before after WriteFault = BeginsAnswer command before after
+Leaves command before after OutOfMemory = WantsMemory command before after
+Leaves command before after ReadFault = FailsToRead command before after
+Leaves command before after Usage = ⊥
 
--- a count of faults that could rise did not
-abbrev pub Stands : ℕ → ℕ → Type 0
-Stands before now = (now ≡ before) × (before < 2 ^ 64 - 1)
+-- which count of faults rose, by the status; the other stands
+abbrev pub CountsAfter : Streams → Streams → Status → Type 0
+CountsAfter before after ReadFault = Rose before.source_faults after.source_faults × (after.sink_faults ≡ before.sink_faults)
+CountsAfter before after WriteFault = (after.source_faults ≡ before.source_faults) × Rose before.sink_faults after.sink_faults
+CountsAfter before after status = (after.source_faults ≡ before.source_faults) × (after.sink_faults ≡ before.sink_faults)
 
--- `word` is done on a whole line that is a word, unless memory is wanting, and refuses every other input
-pub record IsWordDecided (input : List ℕ) (status : Status) : Type 0 where
-  pub done : (w : List ℕ) → IsWordLine input w → (status ≡ Done) ⊎ (status ≡ OutOfMemory)
-  pub refused : ¬ ((w : List ℕ) × IsWordLine input w) → status ≡ Malformed
+-- what a run of a command does, by its status
+pub record Serves (command : Command) (before after : Streams) (status : Status) : Type 0 where
+  pub leaves : Leaves command before after status
+  pub counts : CountsAfter before after status
 
--- `check` is done on every file with a sure tree, unless memory is wanting
-abbrev pub IsCheckDecided : List ℕ → Status → Type 0
-IsCheckDecided input status = IsSureFile greatest_tree input → (status ≡ Done) ⊎ (status ≡ OutOfMemory)
+-- the status is one that the command may have on the input where nothing outside fails
+pub record IsDecided (command : Command) (left : Option (List ℕ)) (status : Status) : Type 0 where
+  pub input : List ℕ
+  pub may_be : MayBe left input
+  pub due : command.IsDue input status
 
--- `at` is done where the word is stable and clear with the wider slack, unless memory is wanting, and refuses what is no stable word
-pub record IsAtDecided (word : List ℕ) (p q d : ℕ) (status : Status) : Type 0 where
-  pub done : (w : List ℕ) → Spells word w → IsClearAtPoint w (over p d) (over q d) (slack 40) → (status ≡ Done) ⊎ (status ≡ OutOfMemory)
-  pub refused : ¬ ((w : List ℕ) × Spells word w × IsStable w) → status ≡ Malformed
-
--- the status that a request has to have where nothing outside fails
-abbrev pub IsDecided : Request → Option (List ℕ) → Status → Type 0
-IsDecided Word input status = (bytes : List ℕ) × MayBe input bytes × IsWordDecided bytes status
-IsDecided Check input status = (bytes : List ℕ) → input ≡ Some bytes → IsCheckDecided bytes status
-IsDecided (At word p q d) input status = IsAtDecided word p q d status
+-- how a run ends whose answer was to be written
+abbrev pub status_after : {T E : Type 0} → Status → Result T E → Status
+status_after status (Ok value) = status
+status_after status (Err error) = WriteFault

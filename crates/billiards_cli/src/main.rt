@@ -1,25 +1,23 @@
 //! The program `mcb`: a workbench for periodic billiard paths in triangles.
 //!
-//! The contract of the crate is that of [`run`]: by the words of the command line, what is read and written, which
+//! The contract of the crate is that of [`run`]: by the arguments of the command line, what is read and written, which
 //! status the process ends with, and which fault of the outside may be laid to it.
 #![tactic(auto)]
 
-mod acceptance;
 mod args;
-#[cfg(test)]
-mod check_tests;
-mod command;
 mod commands;
-#[cfg(test)]
-mod fixtures;
+pub mod laws;
+mod number;
 mod program;
 mod refusal;
-mod shift;
+mod request;
+mod rest;
 mod status;
 #[cfg(test)]
 mod tests;
+mod triangle;
 mod usage;
-mod word_line;
+mod word_argument;
 
 pub use args::Args;
 use mcb_ends::{StdSink, StdSource};
@@ -29,11 +27,13 @@ use std::alloc::Global;
 use std::env::Env;
 use std::process::ExitCode;
 use std::{env, io};
+use triangle::Triangle;
 use usage::USAGE;
+use word_argument::WordArgument;
 
 fn main(rt: HostRuntime) -> ExitCode {
-    let status = match words_of(&rt) {
-        Ok(words) => obey(&rt, &words),
+    let status = match arguments_of(&rt) {
+        Ok(arguments) => run_over_streams(&rt, &arguments),
         Err(status) => status,
     };
     if status == Status::Usage {
@@ -42,26 +42,28 @@ fn main(rt: HostRuntime) -> ExitCode {
     ExitCode::from(status.code())
 }
 
-// The words after the program's name. One that is no text is of no use.
-fn words_of(rt: &(impl Env + Alloc<A = Global>)) -> Result<Args, Status> {
-    let all = env::args(rt).map_err(|fault| status_of(fault.kind()))?;
-    let mut words = Args::new(rt.alloc());
-    for word in all.skip(1) {
-        words.push(word.as_str()).map_err(|_| Status::OutOfMemory)?;
+// The arguments after the program's name. One that is no text is of no use.
+fn arguments_of(rt: &(impl Env + Alloc<A = Global>)) -> Result<Args, Status> {
+    let all = env::args(rt).map_err(|fault| status_without_arguments(fault.kind()))?;
+    let mut arguments = Args::new(rt.alloc());
+    for argument in all.skip(1) {
+        arguments
+            .push(argument.as_str())
+            .map_err(|_| Status::OutOfMemory)?;
     }
-    Ok(words)
+    Ok(arguments)
 }
 
-fn status_of(kind: io::ErrorKind) -> Status {
+fn status_without_arguments(kind: io::ErrorKind) -> Status {
     match kind {
         io::ErrorKind::OutOfMemory => Status::OutOfMemory,
         _ => Status::Usage,
     }
 }
 
-// Runs the words over the standard streams.
-fn obey(rt: &HostRuntime, words: &Args) -> Status {
+// Runs over the standard streams.
+fn run_over_streams(rt: &HostRuntime, arguments: &Args) -> Status {
     let mut source = StdSource::new(rt.stdin());
     let mut sink = StdSink::new(rt.stdout());
-    run(rt.alloc(), words, &mut source, &mut sink)
+    run(rt.alloc(), arguments, &mut source, &mut sink)
 }

@@ -1,9 +1,9 @@
 ghost use Rattle.std.specs.Prelude.{◌≡◌};
 ghost use Rattle.mcb_ends.specs.Bytes.{Writes};
 ghost use Rattle.mcb_ends.specs.Causes.{HasCause};
-ghost use Rattle.billiards_cli.specs.Texts.{refused_text, argument_text};
+ghost use Rattle.billiards_cli.specs.Refusals.{refused_text, argument_text};
 
-use covering_file::Reason;
+use line_grammar::Reason;
 use mcb_ends::{Decimal, Failed, Sink, put_all};
 
 /// Writes which line of the input is refused, counted from 1, and why.

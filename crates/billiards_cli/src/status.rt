@@ -1,5 +1,8 @@
-ghost use Rattle.std.specs.Prelude.{◌≡◌};
+ghost use Rattle.std.specs.Prelude.{◌≡◌, ◌⊎◌};
 ghost use Rattle.billiards_cli.specs.Codes.{code_of};
+ghost use Rattle.billiards_cli.specs.Services.{status_after};
+
+use mcb_ends::Failed;
 
 /// How a run ended.
 #[derive(Clone, Copy, Debug, PartialEq, Eq)]
@@ -8,7 +11,7 @@ pub enum Status {
     Done,
     /// The answer was written, and it is that something was not shown.
     NotShown,
-    /// The words of the command line ask for nothing.
+    /// The arguments of the command line ask for nothing.
     Usage,
     /// The input or an argument was refused, and the refusal was written.
     Malformed,
@@ -37,5 +40,16 @@ impl Status {
             Status::OutOfMemory => 6,
             Status::Full => 7,
         }
+    }
+}
+
+/// How a run ends whose answer was to be written: with this status, where it was.
+pub(crate) fn after_writing(status: Status, written: Result<(), Failed>) -> Status
+    ensures after { result ≡ status_after status written }
+    ensures either { (result ≡ status) ⊎ (result ≡ Status.WriteFault) }
+{
+    match written {
+        Ok(()) => status,
+        Err(Failed) => Status::WriteFault,
     }
 }

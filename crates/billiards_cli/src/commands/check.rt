@@ -1,46 +1,56 @@
-ghost use Rattle.std.specs.Prelude.{◌≡◌, ◌≢◌, ◌⊎◌, ℕ, List, Some};
-ghost use Rattle.covering_file.specs.Covering.{IsCovering};
-ghost use Rattle.billiards_cli.specs.Requests as requests;
-ghost use Rattle.billiards_cli.specs.Answers.{greatest_tree, refusal_status};
+//! The command `check`: the verdict on a covering file that is read from the input.
+ghost use Rattle.std.specs.Prelude.{◌≡◌, ◌⊎◌};
+ghost use Rattle.billiards_cli.specs.Commands.Check.{check_request, refusal_status};
+ghost use Rattle.billiards_cli.specs.Requests.{command_of};
 ghost use Rattle.billiards_cli.specs.Services.{Serves};
 
+mod acceptance;
+
 use crate::Status;
-use crate::acceptance::write_acceptance;
 use crate::refusal::write_refusal;
+use crate::request::Request;
+use crate::rest::Rest;
+use crate::status::after_writing;
+use acceptance::write_acceptance;
 use cover_checker::{CheckFault, Verdict};
-use covering_file::Reason;
-use mcb_ends::{Failed, Sink, Source};
+use covering_file::{MAX_NODES, Reason};
+use mcb_ends::{Sink, Source};
 use std::alloc::Global;
 
-// The greatest number of nodes of a covering file.
-const MAX_NODES: u32 = 2_000_000;
+/// It takes no arguments.
+pub(crate) fn request<'a>(arguments: &Rest<'a>) -> Option<Request<'a>>
+    ensures { result ≡ check_request arguments.now }
+{
+    if arguments.len() == 0 {
+        Some(Request::Check)
+    } else {
+        None
+    }
+}
 
 /// Judges a covering file and writes the verdict.
 pub(crate) fn check<S: Source, K: Sink>(alloc: Global, src: &mut S, out: &mut K) -> Status
-    ensures meant { result ≢ Status.Usage }
     ensures unwritten { (result ≡ Status.ReadFault) ⊎ (result ≡ Status.OutOfMemory) → out.new ≡ out.old }
     ensures room { K.room out.new ≡ K.room out.old }
-    ensures serves { Serves requests.Check (S.left src.old) (S.left src.new)
-        (S.faults src.old) (S.faults src.new) (K.written out.old) (K.written out.new)
-        (K.faults out.old) (K.faults out.new) result }
-    ensures covered { result ≡ Status.Done → (bytes : List ℕ) → S.left src.old ≡ Some bytes → IsCovering greatest_tree bytes }
+    ensures serves { Serves (command_of Request.Check)
+        (record { left = S.left src.old; source_faults = S.faults src.old; written = K.written out.old; sink_faults = K.faults out.old })
+        (record { left = S.left src.new; source_faults = S.faults src.new; written = K.written out.new; sink_faults = K.faults out.new })
+        result }
 {
     match cover_checker::check(alloc, MAX_NODES, src) {
+        Ok(Verdict::Accepted { nodes, words }) => {
+            after_writing(Status::Done, write_acceptance(nodes, words, out))
+        }
+        Ok(Verdict::Refused { line, reason }) => {
+            after_writing(status_of_refusal(reason), write_refusal(line, reason, out))
+        }
         Err(CheckFault::Read) => Status::ReadFault,
         Err(CheckFault::Memory) => Status::OutOfMemory,
-        Ok(Verdict::Accepted { nodes, words }) => match write_acceptance(nodes, words, out) {
-            Ok(()) => Status::Done,
-            Err(Failed) => Status::WriteFault,
-        },
-        Ok(Verdict::Refused { line, reason }) => match write_refusal(line, reason, out) {
-            Ok(()) => status_of(reason),
-            Err(Failed) => Status::WriteFault,
-        },
     }
 }
 
 // What a refusal says of the file.
-fn status_of(reason: Reason) -> Status
+fn status_of_refusal(reason: Reason) -> Status
     ensures { result ≡ refusal_status reason }
 {
     match reason {

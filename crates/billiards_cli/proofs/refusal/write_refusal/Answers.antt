@@ -1,6 +1,6 @@
 use Rattle.std.proofs.Common.{◌≡◌}
 use Rattle.std.specs.Fmt.{decimal}
-use Rattle.covering_file.specs.Offence.{number_of}
+use Rattle.line_grammar.specs.Offence.{number_of}
 use Rattle.billiards_cli.proofs.refusal.write_refusal.Goals as goal
 
 pub returns-clause-text : goal.returns-clause-text

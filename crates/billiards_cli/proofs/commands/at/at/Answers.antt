@@ -1,28 +1,57 @@
-use Rattle.billiards_cli.specs.Requests.{At}
-use Rattle.billiards_cli.specs.Texts.{open_text, not_shown_text, argument_text}
-use Rattle.billiards_cli.specs.declared.status.Status.TheVariants.{Done, NotShown, Malformed}
-use Rattle.std.proofs.Common.{refl}
-use Rattle.billiards_cli.proofs.Serving.{served_by_failed_write, refused_at}
+use Rattle.std.proofs.Common.{◌≡◌, true, false, [], Ok, Bool, ap, ◌∙◌, refl}
+use Rattle.covering_file.specs.CornerForms.{word_form}
+use Rattle.billiards_cli.specs.Commands.At.{open_text, not_shown_text, ShowsOpen, ShowsNothing, AtWantsMemory}
+use Rattle.billiards_cli.specs.Refusals.{argument_text, RefusesArgument}
+use Rattle.billiards_cli.specs.declared.status.Status.TheVariants.{Done, NotShown, Malformed, OutOfMemory}
+use Rattle.billiards_cli.proofs.Serving.{served}
+use Rattle.billiards_cli.proofs.AtAnswers.{at_answer}
 use Rattle.billiards_cli.proofs.commands.at.at.Goals as goal
 
-pub returns-in-Err-put-clause-serves : goal.returns-in-Err-put-clause-serves
-returns-in-Err-put-clause-serves g c = λ left source.
-    let k = g.K.Sink in
-    let right = rw c.in-Ok-Open.field-0-is at c.in-Ok-Open.ensures.right in
-    served_by_failed_write (At c.args.word.now c.args.p c.args.q c.args.d) left left source source (k.written c.args.out.now) (k.written c.put.new.out) (k.faults c.args.out.now) (k.faults c.put.new.out) Done open_text
-    (right.0, right.1, right.2, refl) refl c.in-Err-put.ensures.text c.in-Err-put.ensures.cause.failed
+pub returns-in-Ok-true-clause-serves : goal.returns-in-Ok-true-clause-serves
+returns-in-Ok-true-clause-serves g c = λ left faults.
+    let is : c.is_open.result ≡ Ok true = c.in-Ok-true.is ∙ ap (λ (b : Bool). Ok b) c.in-Ok-true.field-0-test in
+    let right : ShowsOpen c.args.argument.now c.args.triangle.now open_text = record {
+      word = c.in-Ok.word;
+      spells = record
+          { is_word = c.in-Ok.ensures.0.word; digits = c.in-Ok.ensures.1 };
+      corridor = c.is_open.ensures.«open» is;
+      text_is = refl;
+    } in
+    served _ _ _ Done _ open_text c.put.result tt (at_answer c.args.argument.now c.args.triangle.now left Done open_text right) refl
+    c.put.ensures.text c.put.ensures.cause c.after_writing.ensures.after
 
-pub returns-in-Err-put-2-clause-serves : goal.returns-in-Err-put-2-clause-serves
-returns-in-Err-put-2-clause-serves g c = λ left source.
-    let k = g.K.Sink in
-    let right = rw c.in-Ok-NotShown.field-0-is at c.in-Ok-NotShown.ensures.right in
-    served_by_failed_write (At c.args.word.now c.args.p c.args.q c.args.d) left left source source (k.written c.args.out.now) (k.written c.put-in-Ok-NotShown.new.out) (k.faults c.args.out.now) (k.faults c.put-in-Ok-NotShown.new.out) NotShown not_shown_text
-    (right.0, right.1, right.2, right.3, refl) refl c.in-Err-put-2.ensures.text c.in-Err-put-2.ensures.cause.failed
+pub returns-in-Ok-false-clause-serves : goal.returns-in-Ok-false-clause-serves
+returns-in-Ok-false-clause-serves g c = λ left faults.
+    let is : c.is_open.result ≡ Ok false = c.in-Ok-false.is ∙ ap (λ (b : Bool). Ok b) c.in-Ok-false.field-0-test in
+    let right : ShowsNothing c.args.argument.now c.args.triangle.now not_shown_text = record {
+      word = c.in-Ok.word;
+      spells = record { is_word = c.in-Ok.ensures.0.word; digits = c.in-Ok.ensures.1 };
+      stable = c.in-Ok.ensures.0.stable;
+      not_clear = c.is_open.ensures.not_shown is;
+      text_is = refl;
+    } in
+    served _ _ _ NotShown _ not_shown_text c.put-in-Ok-false.result tt
+    (at_answer c.args.argument.now c.args.triangle.now left NotShown not_shown_text right) refl
+    c.put-in-Ok-false.ensures.text c.put-in-Ok-false.ensures.cause c.after_writing-in-Ok-false.ensures.after
 
-pub returns-in-Err-write_argument_refusal-clause-serves : goal.returns-in-Err-write_argument_refusal-clause-serves
-returns-in-Err-write_argument_refusal-clause-serves g c = λ left source.
-    let k = g.K.Sink in
-    let reason = c.in-Ok-Refused.reason in
-    let right = rw c.in-Ok-Refused.field-0-is at c.in-Ok-Refused.ensures.right in
-    served_by_failed_write (At c.args.word.now c.args.p c.args.q c.args.d) left left source source (k.written c.args.out.now) (k.written c.write_argument_refusal.new.out) (k.faults c.args.out.now) (k.faults c.write_argument_refusal.new.out) Malformed (argument_text reason)
-    (refused_at c.args.word.now c.args.p c.args.q c.args.d reason right) refl c.in-Err-write_argument_refusal.ensures.text c.in-Err-write_argument_refusal.ensures.cause.failed
+pub returns-in-Ok-clause-serves : goal.returns-in-Ok-clause-serves
+returns-in-Ok-clause-serves g c = λ left faults.
+    let right : AtWantsMemory c.args.argument.now [] = record {
+      word = c.in-Ok.word;
+      spells = record
+          { is_word = c.in-Ok.ensures.0.word; digits = c.in-Ok.ensures.1 };
+      stable = c.in-Ok.ensures.0.stable;
+      text_is = refl;
+    } in
+    record {
+      leaves = record { answer = at_answer c.args.argument.now c.args.triangle.now left OutOfMemory [] right; unwritten = refl };
+      counts = (refl, refl);
+    }
+
+pub returns-clause-serves : goal.returns-clause-serves
+returns-clause-serves g c = λ left faults.
+    let text = argument_text c.in-Err.reason in
+    let right : RefusesArgument word_form c.args.argument.now text = record { reason = c.in-Err.reason; refused = c.in-Err.ensures; named = refl } in
+    served _ _ _ Malformed _ text c.write_argument_refusal.result tt
+    (at_answer c.args.argument.now c.args.triangle.now left Malformed text right) refl
+    c.write_argument_refusal.ensures.text c.write_argument_refusal.ensures.cause c.after_writing-in-Err.ensures.after

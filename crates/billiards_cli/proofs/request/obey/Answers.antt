@@ -1,0 +1,6 @@
+use Rattle.billiards_cli.proofs.request.obey.Goals as goal
+
+pub returns-in-At-clause-serves : goal.returns-in-At-clause-serves
+returns-in-At-clause-serves g c =
+    let s = g.S.Source in
+    rw c.in-At.is (c.at.ensures.serves (s.left c.args.src.now) (s.faults c.args.src.now))

@@ -1,0 +1,14 @@
+//! How much freedom right answers leave, over the definitions alone: each function's contract is a law. The program calls
+//! none.
+ghost use Rattle.billiards_cli.specs.Laws.{WordAnswerIsOne, AtAnswersDifferBetween};
+
+/// Two right answers of `word` to one input, neither of which is that memory is wanting, have one status and one text.
+pub fn word_answer_is_one()
+    ensures { WordAnswerIsOne }
+{}
+
+/// Two right answers of `at`, neither of which is that memory is wanting, have one status and one text, or else the word has
+/// a corridor at the triangle and is not clear there with the wider slack.
+pub fn at_answers_differ_between()
+    ensures { AtAnswersDifferBetween }
+{}

@@ -1,0 +1,65 @@
+//! What the arguments of a command line ask for: one row, one variant and one arm a command.
+ghost use Rattle.std.specs.Prelude.{◌≡◌, ◌⊎◌};
+ghost use Rattle.std.specs.Bool.{OnFalse};
+ghost use Rattle.billiards_cli.specs.Command.{reads_input};
+ghost use Rattle.billiards_cli.specs.Requests.{request_of, command_of};
+ghost use Rattle.billiards_cli.specs.Services.{Serves};
+
+use crate::commands::at::{self, at};
+use crate::commands::check::{self, check};
+use crate::commands::word::{self, word};
+use crate::{Args, Status, Triangle, WordArgument};
+use mcb_ends::{Sink, Source};
+use std::alloc::Global;
+
+/// A command with its arguments.
+#[derive(Drop)]
+pub(crate) enum Request<'a> {
+    /// The shift of a word that is read from the input.
+    Word,
+    /// The verdict on a covering file that is read from the input.
+    Check,
+    /// Whether the corridor of a word is open at a triangle.
+    At {
+        word: WordArgument<'a>,
+        triangle: Triangle,
+    },
+}
+
+/// The request of a command line: its first argument is the name of a command.
+pub(crate) fn parse(arguments: &Args) -> Option<Request<'_>>
+    ensures { result ≡ request_of arguments.now }
+{
+    let (name, arguments) = arguments.named()?;
+    if name == b"word".as_slice() {
+        word::request(&arguments)
+    } else if name == b"check".as_slice() {
+        check::request(&arguments)
+    } else if name == b"at".as_slice() {
+        at::request(&arguments)
+    } else {
+        None
+    }
+}
+
+/// Does what is asked for.
+pub(crate) fn obey<S: Source, K: Sink>(
+    alloc: Global,
+    request: &Request,
+    src: &mut S,
+    out: &mut K,
+) -> Status
+    ensures idle { OnFalse (reads_input (command_of request.now).reads) (src.new ≡ src.old) }
+    ensures unwritten { (result ≡ Status.ReadFault) ⊎ (result ≡ Status.OutOfMemory) → out.new ≡ out.old }
+    ensures room { K.room out.new ≡ K.room out.old }
+    ensures serves { Serves (command_of request.now)
+        (record { left = S.left src.old; source_faults = S.faults src.old; written = K.written out.old; sink_faults = K.faults out.old })
+        (record { left = S.left src.new; source_faults = S.faults src.new; written = K.written out.new; sink_faults = K.faults out.new })
+        result }
+{
+    match request {
+        Request::Word => word(alloc, src, out),
+        Request::Check => check(alloc, src, out),
+        Request::At { word, triangle } => at(alloc, word, triangle, out),
+    }
+}

@@ -1,0 +1,32 @@
+use crate::tests::fixtures::{arguments_of, sink, source};
+use crate::{Status, run};
+use std::test::Fail;
+
+// Arguments that ask for nothing leave the input alone.
+#[test]
+fn other_arguments_are_a_wrong_use(rt: HostRuntime) -> Result<(), Fail> {
+    let rows: [&[&str]; 10] = [
+        &[],
+        &["help"],
+        &["check", "x"],
+        &["word", "123123"],
+        &["at", "123123", "1", "1"],
+        &["at", "123123", "1", "1", "2"],
+        &["at", "123123", "01", "1", "3"],
+        &["job", "0"],
+        &["search", "1", "1", "3", "7"],
+        &["upgrade", "1"],
+    ];
+    for arguments in rows {
+        let arguments = arguments_of(rt.alloc(), arguments)?;
+        let mut src = source(rt.alloc(), b"123123\n", 16, &[1])?;
+        let mut out = sink(rt.alloc(), &[1])?;
+        assert_eq!(rt;
+            run(rt.alloc(), &arguments, &mut src, &mut out),
+            Status::Usage
+        );
+        assert_eq!(rt; src.faults(), 0);
+        assert_eq!(rt; out.faults(), 0);
+    }
+    Ok(())
+}
