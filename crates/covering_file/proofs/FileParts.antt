@@ -34,7 +34,7 @@ node_lines claims limit h nodes =
 
 -- ---- no box is left uncovered
 
-none_uncovered : (limit : ℕ) (h : Heading) (before nodes : List Node) → AreSaid node_due (node_part check_claims limit h) before nodes → count_by is_uncovered nodes ≡ 0
+pub none_uncovered : (limit : ℕ) (h : Heading) (before nodes : List Node) → AreSaid node_due (node_part check_claims limit h) before nodes → count_by is_uncovered nodes ≡ 0
 none_uncovered limit h before [] said = refl
 none_uncovered limit h before (n ∷ nodes) said =
     rw (sound_is_covered h slacks.sound (first_box (due_boxes before)) n said.1.stands, none_uncovered limit h (before ++ n ∷ []) nodes said.2) refl
