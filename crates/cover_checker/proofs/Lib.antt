@@ -1,6 +1,5 @@
-pub mod Listed
-pub mod NodeReasons
-pub mod NodeFaults
-pub mod MoreNodes
-pub mod EndFaults
-pub mod Whole
+mod NodeReasons
+mod NextNode
+mod Reached
+mod WholeTree
+mod RightVerdicts

@@ -5,14 +5,13 @@
 #![tactic(auto)]
 
 mod checking;
-mod claims;
-mod end;
-mod node_line;
+mod judging;
 mod nodes;
+mod tree;
 mod verdict;
-mod walk;
 
 pub use checking::check;
+pub use judging::judge;
 pub use verdict::{CheckFault, Verdict};
 
 #[cfg(test)]

@@ -1,73 +1,100 @@
-ghost use Rattle.std.specs.Prelude.{◌≡◌, ◌+◌, ◌<◌, ◌≤◌, ◌^◌, false, [], length, Some, IfOk, IfErr};
-ghost use Rattle.covering_file.specs.declared.file_kind.FileKind.TheVariants.{Cover};
-ghost use Rattle.covering_file.specs.Header.{IsHeading, header_lines};
-ghost use Rattle.covering_file.specs.Faults.{HasHeadCause};
-ghost use Rattle.covering_file.specs.DueBoxes.{due_boxes};
-ghost use Rattle.covering_file.specs.FileOffence.{tree_lines, MayPass};
-ghost use Rattle.cover_checker.specs.Steps.{first_of, TakesNode, TakesTree, TreeFails};
+ghost use Rattle.std.specs.Prelude.{◌≡◌, ◌+◌, ◌<◌, ◌≤◌, ◌^◌, false, length, IfOk, IfErr};
+ghost use Rattle.mcb_ends.specs.Causes.{HasCauseWhere};
+ghost use Rattle.line_grammar.specs.Faults.{refusal_of, is_read};
+ghost use Rattle.line_grammar.specs.Reading.{FailsPart};
+ghost use Rattle.covering_file.specs.CheckClaims.{check_claims};
+ghost use Rattle.covering_file.specs.FilePart.{nodes_part};
+ghost use Rattle.covering_file.specs.Node.{IsNode};
+ghost use Rattle.cover_checker.specs.Steps.{JudgesNode, ReadsNode, TakesNodes};
 
-use crate::claims::Claims;
-use crate::node_line::NodeLine;
-use crate::walk::Walk;
-use covering_file::{HeadFault, Node, take};
+use covering_claims::pass_node;
+use covering_file::{Header, MAX_NODES, Node, NodeLine, Reason, Walk};
+use gradient_bounds::Prepared;
+use line_grammar::{LineFault, take};
 use mcb_ends::{LineReader, Source};
+use pi_bounds::Fine;
 use rational_polygon::GridBox;
 use std::alloc::Global;
 
-/// Takes the lines of the nodes behind a header, one for each box that is due, until none is. It answers how many there are.
-pub fn judge_nodes<S: Source>(
+/// Takes the lines of the nodes after a header, one for each box that is due, until none is. It answers how many there are,
+/// and takes no memory.
+pub fn take_nodes<S: Source>(
     alloc: Global,
+    header: &Header,
+    tests: &mut [Prepared<Fine>],
     limit: u32,
-    claims: &mut Claims,
     lines: &mut LineReader,
     src: &mut S,
-) -> Result<u32, HeadFault>
-    requires limit { limit ≤ 2000000 }
-    requires heading { IsHeading claims.old }
-    requires number { lines.old.number ≡ length (header_lines Cover claims.old) }
+) -> Result<u32, LineFault>
+    requires limit { limit ≤ MAX_NODES }
+    requires tests { tests.old ≡ header.now.words }
+    requires few { lines.old.number ≤ 2 ^ 31 }
     requires reading { lines.old.is_done ≡ false }
-    ensures heading { claims.new ≡ claims.old }
-    ensures tree { IfOk result (TakesTree limit claims.old lines.old lines.new (S.left src.old) (S.left src.new)) }
-    ensures fails { IfErr result (TreeFails limit claims.old [] lines.old (S.left src.old) (S.left src.new)) }
-    ensures cause { HasHeadCause (S.faults src.old) (S.faults src.new) result }
+    ensures kept { tests.new ≡ tests.old }
+    ensures nodes { IfOk result (TakesNodes limit header.now lines.old lines.new (S.left src.old) (S.left src.new)) }
+    ensures fails { IfErr result (λ fault. FailsPart (nodes_part check_claims limit header.now).grammar lines.old lines.new
+        (S.left src.old) (S.left src.new) (refusal_of fault)) }
+    ensures few { IfOk result (λ count. lines.new.number ≡ lines.old.number + count) }
+    ensures within { IfOk result (λ count. count ≤ limit) }
+    ensures cause { HasCauseWhere is_read (S.faults src.old) (S.faults src.new) result }
 {
-    let mut walk = Walk::new(alloc)?;
-    while let Some(place) = walk.place() {
-        let node = take_node(limit, claims, &walk, place, lines, src)?;
-        walk = walk.with(node)?;
+    let mut walk = Walk::new(alloc, header.depth());
+    let mut count = 0;
+    while let Some(place) = walk.due() {
+        let node = take_node(header, tests, limit, count, place, lines, src)?;
+        walk.step(node);
+        count += 1;
     }
-    Ok(walk.count() as u32)
+    Ok(count)
 }
 
-// Takes the line of a node for the first due box.
+// Takes the line of the node for a box, after so many nodes.
 fn take_node<S: Source>(
+    header: &Header,
+    tests: &mut [Prepared<Fine>],
     limit: u32,
-    claims: &mut Claims,
-    walk: &Walk,
+    count: u32,
     place: GridBox,
     lines: &mut LineReader,
     src: &mut S,
-) -> Result<Node, HeadFault>
-    requires pass { MayPass limit claims.old walk.now }
-    requires due { first_of (due_boxes walk.now) ≡ Some place }
-    requires number { lines.old.number ≡ length (tree_lines claims.old walk.now) }
+) -> Result<Node, LineFault>
+    requires tests { tests.old ≡ header.now.words }
     requires few { lines.old.number + 1 < 2 ^ 32 }
     requires reading { lines.old.is_done ≡ false }
-    ensures heading { claims.new ≡ claims.old }
-    ensures node { IfOk result (TakesNode limit claims.old walk.now place lines.old lines.new (S.left src.old) (S.left src.new)) }
-    ensures fails { IfErr result (TreeFails limit claims.old walk.now lines.old (S.left src.old) (S.left src.new)) }
-    ensures cause { HasHeadCause (S.faults src.old) (S.faults src.new) result }
+    ensures kept { tests.new ≡ tests.old }
+    ensures node { ReadsNode limit header.now count place lines.old lines.new (S.left src.old) (S.left src.new) result }
+    ensures cause { HasCauseWhere is_read (S.faults src.old) (S.faults src.new) result }
 {
     let form = NodeLine {
-        words: claims.word_count(),
+        words: header.words().len() as u32,
     };
     let node = take(&form, lines, src)?;
-    let full = walk.count() >= limit as usize;
-    match claims.refusal(place, node, full) {
-        None => Ok(node),
-        Some(reason) => Err(HeadFault::Line {
+    match judge_node(header, tests, limit, count, place, node) {
+        Ok(()) => Ok(node),
+        Err(reason) => Err(LineFault::Line {
             line: lines.number(),
             reason,
         }),
     }
+}
+
+// Passes a node that may stand at the box and is not one too many.
+fn judge_node(
+    header: &Header,
+    tests: &mut [Prepared<Fine>],
+    limit: u32,
+    count: u32,
+    place: GridBox,
+    node: Node,
+) -> Result<(), Reason>
+    requires tests { tests.old ≡ header.now.words }
+    requires node { IsNode (length header.now.words) node }
+    ensures kept { tests.new ≡ tests.old }
+    ensures judged { JudgesNode header.now place node limit count result }
+{
+    pass_node(header, tests, place, node)?;
+    if count >= limit {
+        return Err(Reason::TooMany);
+    }
+    Ok(())
 }

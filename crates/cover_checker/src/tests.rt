@@ -1,6 +1,7 @@
-use crate::{CheckFault, Verdict, check};
-use covering_file::Reason;
-use mcb_ends::MemSource;
+use crate::{CheckFault, Verdict, check, judge};
+use covering_claims::prepare;
+use covering_file::{FileKind, Reason, read_header};
+use mcb_ends::{LineReader, MemSource};
 use std::alloc::{AllocError, Global};
 use std::process::Abort;
 use std::test::Fail;
@@ -165,5 +166,32 @@ fn says_where_a_read_failed(rt: HostRuntime) -> Result<(), Fail> {
         );
         assert_eq!(rt; src.faults(), 1);
     }
+    Ok(())
+}
+
+// The header is read first, and the rest is judged after it.
+#[test]
+fn judges_after_a_header(rt: HostRuntime) -> Result<(), Fail> {
+    let alloc = rt.alloc();
+    let bytes = file(alloc, SMALL, "7", DEEP, COMPLETE)?;
+    let mut src = MemSource::new(bytes, 16, Vec::new(alloc));
+    let mut lines = LineReader::new();
+    let header = read_header(alloc, FileKind::Cover, &mut lines, &mut src)?;
+    let mut tests = prepare(alloc, &header)?;
+    let verdict = judge(
+        alloc,
+        &header,
+        tests.as_mut_slice(),
+        MOST,
+        &mut lines,
+        &mut src,
+    );
+    assert_eq!(rt;
+        verdict,
+        Ok(Verdict::Accepted {
+            nodes: 29,
+            words: 1
+        })
+    );
     Ok(())
 }
