@@ -1,4 +1,4 @@
-/// What stands behind the header.
+/// What stands after the header.
 #[derive(Clone, Copy, Debug, PartialEq, Eq)]
 pub enum FileKind {
     /// A tree: the file is a covering.

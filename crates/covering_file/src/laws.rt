@@ -2,7 +2,9 @@
 ghost use Rattle.covering_file.specs.declared.file_kind.FileKind.{FileKind};
 ghost use Rattle.line_grammar.specs.Laws.{OffenceIsOne};
 ghost use Rattle.covering_file.specs.HeaderPart.{header_part, job_part};
-ghost use Rattle.covering_file.specs.Laws.{HeaderIsOne, NoHeaderPrefix, HeaderNeverOffends, JobNeverOffends, WholeIsTree, TreeIsOne, StandingIsDue, SoundCovers, SoundIsCovered, CoveredEverywhere, SureIsSound, FileTextIsLines, FileIsOne, PassedIsAccepted, AcceptedIsCovering, AcceptedIsOne, SureIsNotRefused};
+ghost use Rattle.covering_file.specs.Laws.{HeaderIsOne, NoHeaderPrefix, HeaderNeverOffends, JobNeverOffends, WholeIsTree, TreeIsOne, StandingIsDue};
+ghost use Rattle.covering_file.specs.Laws.{SoundCovers, SoundIsCovered, CoveredEverywhere, SureIsSound, FileTextIsLines, FileIsOne, PassedIsAccepted};
+ghost use Rattle.covering_file.specs.Laws.{AcceptedIsCovering, AcceptedIsOne, SureIsNotRefused};
 
 /// Bytes that begin with the texts of two headers begin with one.
 pub fn header_is_one()
@@ -14,7 +16,7 @@ pub fn no_header_prefix()
     ensures { NoHeaderPrefix }
 {}
 
-/// No line of a header offends, so that a header is refused never.
+/// No line of a header offends, so that a header is never refused.
 pub fn header_never_offends()
     ensures { HeaderNeverOffends }
 {}

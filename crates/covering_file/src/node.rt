@@ -33,7 +33,7 @@ pub fn read_node(line: &[u8], words: u32) -> Result<Node, Reason>
     }
 }
 
-// The node of a line that goes on so behind `w` and a space.
+// The node of a line that goes on so after `w` and a space.
 fn read_shown(number: &[u8], words: u32) -> Result<Node, Reason>
     ensures { ReadsAs (node_form words) (two_fields (codes "w") number.now) result }
 {

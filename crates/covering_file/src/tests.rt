@@ -113,7 +113,7 @@ fn refuses_corners(rt: HostRuntime) -> Result<(), Fail> {
     Ok(())
 }
 
-// The lines behind the last corner.
+// The lines after the last corner.
 #[test]
 fn refuses_words_and_depths(rt: HostRuntime) -> Result<(), Fail> {
     let alloc = rt.alloc();
@@ -147,7 +147,7 @@ fn refuses_words_and_depths(rt: HostRuntime) -> Result<(), Fail> {
 }
 
 #[test]
-fn reads_a_job_and_nothing_behind_it(rt: HostRuntime) -> Result<(), Fail> {
+fn reads_a_job_and_nothing_after_it(rt: HostRuntime) -> Result<(), Fail> {
     let alloc = rt.alloc();
     let long = "eeeeeeeeeeeeeeeeeeeeeeeeeeeeeeeeeeeeeeeeeeeeeeeeeeeeeeeeeeeeeeeeeeeeeeeeeeeeeeeee";
     assert_eq!(rt; job_fault(alloc, "end\n")?, None);

@@ -1,7 +1,8 @@
 ghost use Rattle.std.specs.Prelude.{◌≡◌, ◌^◌, pos, ◌≤ℤ◌};
 ghost use Rattle.rat_core.specs.Fraction.{ℚ, ◌÷◌, ◌+ℚ◌, ◌-ℚ◌, ◌*ℚ◌};
 ghost use Rattle.directed_fixed.specs.Rounding.{IsFloor, IsCeiling, IsRounded};
-ghost use Rattle.directed_fixed.specs.Ends.{Ends, Encloses, IsWithin, IsInterval, sum_of, difference_of, multiple_of, least_product, greatest_product, outer as outer_of, outer_product as outer_product_of};
+ghost use Rattle.directed_fixed.specs.Ends.{Ends, Encloses, IsWithin, IsInterval, sum_of, difference_of, multiple_of, least_product};
+ghost use Rattle.directed_fixed.specs.Ends.{greatest_product, outer as outer_of, outer_product as outer_product_of};
 
 use crate::direction::{Direction, Down, Up};
 use crate::scale::Scale;

@@ -1,6 +1,8 @@
 //! What formal points mean, each law a function whose contract is the law. The program calls none of them.
 
-ghost use Rattle.exp_sums.specs.Laws.{TermsAreCanonical, ListsAddUp, CoefficientsTellPointsApart, MonomialsHaveOneTerm, SumsAddCoefficients, NegativesNegateCoefficients, ProductsConvolve, ConjugatesNegateDirections, SineFormsSubtractConjugates, SineFormsAddUp, WeighingAddsUp, OtherDirectionsAreFree};
+ghost use Rattle.exp_sums.specs.Laws.{TermsAreCanonical, ListsAddUp, CoefficientsTellPointsApart, MonomialsHaveOneTerm, SumsAddCoefficients};
+ghost use Rattle.exp_sums.specs.Laws.{NegativesNegateCoefficients, ProductsConvolve, ConjugatesNegateDirections, SineFormsSubtractConjugates};
+ghost use Rattle.exp_sums.specs.Laws.{SineFormsAddUp, WeighingAddsUp, OtherDirectionsAreFree};
 
 /// The terms of a formal point rise by their directions, and none has the coefficient 0.
 pub fn terms_are_canonical()

@@ -28,9 +28,9 @@ pub enum Reason {
     NotShown,
     /// The box is left uncovered.
     Uncovered,
-    /// Another end line is due, or it stands behind the end line.
+    /// Another end line is due, or it stands after the end line.
     EndLine,
-    /// It stands behind the greatest number of nodes.
+    /// It stands after the greatest number of nodes.
     TooMany,
 }
 

@@ -14,7 +14,7 @@ next_found line found.TooLong = TooLong
 next_found line found.CutShort = CutShort
 next_found line found.End = End
 
--- n more bytes of the source stand behind those that were held, and none only at its end
+-- n more bytes of the source stand after those that were held, and none only at its end
 pub record Fills (old new : List ℕ) (left left' : Option (List ℕ)) (n : ℕ) : Type 0 where
   pub more : List ℕ
   pub count : length more ≡ n

@@ -23,7 +23,7 @@ IsHonest None written faults = ⊤
 IsHonest (Some room) None faults = ⊥
 IsHonest (Some room) (Some bytes) faults = 0 < faults → room ≤ length bytes
 
--- the pieces, one behind the other
+-- the pieces, one after the other
 abbrev pub joined : List (Bor (List ℕ)) → List ℕ
 joined pieces = flat_map (λ piece. piece.now) pieces
 

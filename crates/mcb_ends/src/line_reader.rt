@@ -150,7 +150,7 @@ impl LineReader {
         &self.bytes[self.start..self.end]
     }
 
-    // Hands out the first bytes that it holds, and skips the newline behind them.
+    // Hands out the first bytes that it holds, and skips the newline after them.
     fn take_line(&mut self, len: usize)
         requires room { len < length self.old.held }
         requires few { self.old.number + 1 < 2 ^ 32 }
@@ -173,7 +173,7 @@ impl LineReader {
         self.is_done = true;
     }
 
-    // Reads more bytes behind those that it holds, and answers how many. 0 is the end of input.
+    // Reads more bytes after those that it holds, and answers how many. 0 is the end of input.
     fn fill<S: Source>(&mut self, src: &mut S) -> Result<usize, Failed>
         requires { length self.old.held < 4096 }
         ensures bytes { FillsBehind self.old.held self.new.held (S.left src.old) (S.left src.new) result }
@@ -188,7 +188,7 @@ impl LineReader {
         self.stop = 0;
         self.start = 0;
         self.end = held;
-        let count = read_behind(&mut self.bytes, held, src)?;
+        let count = read_after(&mut self.bytes, held, src)?;
         self.end = held + count;
         Ok(count)
     }
@@ -204,8 +204,8 @@ fn line_end(bytes: &[u8]) -> Option<usize>
         .position(|byte| *byte == b'\n')
 }
 
-// Reads behind the first bytes of a buffer, and answers how many.
-fn read_behind<S: Source>(buf: &mut [u8], at: usize, src: &mut S) -> Result<usize, Failed>
+// Reads after the first bytes of a buffer, and answers how many.
+fn read_after<S: Source>(buf: &mut [u8], at: usize, src: &mut S) -> Result<usize, Failed>
     requires { at ≤ length buf.old }
     ensures len { length buf.new ≡ length buf.old }
     ensures front { take at buf.new ≡ take at buf.old }

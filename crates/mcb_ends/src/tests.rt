@@ -10,7 +10,7 @@ use std::test::Fail;
 
 const PIECES: [usize; 7] = [1, 7, 80, 81, 4095, 4096, 5000];
 
-// Equal bytes, and a newline behind them.
+// Equal bytes, and a newline after them.
 fn push_line(input: &mut Vec<u8>, byte: u8, len: usize) -> Result<(), OutOfMemory> {
     for _ in 0..len {
         input.push(byte)?;

@@ -18,7 +18,7 @@ pub fn put<K: Sink>(out: &mut K, piece: &[u8]) -> Result<(), Failed>
     Ok(())
 }
 
-/// Writes the pieces, one behind the other.
+/// Writes the pieces, one after the other.
 pub fn put_all<K: Sink>(out: &mut K, pieces: &[&[u8]]) -> Result<(), Failed>
     ensures text { Writes (K.written out.old) (K.written out.new) result (joined pieces.now) }
     ensures room { K.room out.new ≡ K.room out.old }

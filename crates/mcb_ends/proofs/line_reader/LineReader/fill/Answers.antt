@@ -9,10 +9,10 @@ pub returns-clause-bytes : goal.returns-clause-bytes
 returns-clause-bytes g c =
     let left = g.S.Source.left in
     let inside = c.self.inside in
-    let filled = c.read_behind.new.buf in
+    let filled = c.read_after.new.buf in
     let read = c.in_ok-count.ensures in
     let held : slice_range inside.bytes inside.start inside.end ≡ c.args.self.now.held = ap (λ (reader : Reader). reader.held) c.self.view_is in
-    let size : length filled ≡ 4096 = c.read_behind.ensures.len ∙ c.copy_within.ensures.len ∙ c.self.told in
+    let size : length filled ≡ 4096 = c.read_after.ensures.len ∙ c.copy_within.ensures.len ∙ c.self.told in
     let room : 0 < length (drop (inside.end - inside.start) filled) = omega (
       arith,
       size,
@@ -24,5 +24,5 @@ returns-clause-bytes g c =
       c.requires,
     ) in
     Fills-read c.args.self.now.held inside.bytes c.copy_within.new.self filled inside.start inside.end c.in_ok-count.count (left c.args.src.now)
-    (left c.read_behind.new.src) held (omega arith) (omega arith) c.copy_within.ensures.after read.front
+    (left c.read_after.new.src) held (omega arith) (omega arith) c.copy_within.ensures.after read.front
     (omega (arith, size, read.bound)) read.bytes.0 (λ none. read.bytes.1 none room)
