@@ -6,11 +6,10 @@ use Rattle.line_grammar.specs.Input.{MayBe, IsNew}
 use Rattle.line_grammar.specs.Offence.{Grammar, IsFirstOffence}
 use Rattle.line_grammar.specs.Faults.{Refusal}
 use Rattle.line_grammar.specs.Part.{Part}
-use Rattle.line_grammar.specs.Reading.{StopsAfter, FailsPart, TakesText, ReadsInput}
+use Rattle.line_grammar.specs.Reading.{EndsAt, StopsAfter, FailsPart, TakesText, ReadsInput}
 use Rattle.line_grammar.specs.Text.{text_of}
 use Rattle.line_grammar.specs.declared.reason.Reason.{Reason}
 use Rattle.line_grammar.proofs.Taken.{new_bytes}
-use Rattle.cover_checker.specs.Verdicts.{EndsAt}
 use Rattle.billiards_cli.specs.Command.{By}
 use Rattle.billiards_cli.specs.Refusals.{refused_text}
 use Rattle.billiards_cli.specs.Services.{StopsAtNamed, FailsIn}

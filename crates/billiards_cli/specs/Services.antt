@@ -9,7 +9,7 @@ use Rattle.mcb_ends.specs.Causes.{Rose}
 use Rattle.line_grammar.specs.Input.{MayBe}
 use Rattle.line_grammar.specs.Offence.{Grammar}
 use Rattle.line_grammar.specs.declared.reason.Reason.{Reason}
-use Rattle.cover_checker.specs.Verdicts.{EndsAt}
+use Rattle.line_grammar.specs.Reading.{EndsAt}
 use Rattle.billiards_cli.specs.Command.{Reading, Nothing, By, Command}
 use Rattle.billiards_cli.specs.Refusals.{refused_text}
 use Rattle.billiards_cli.specs.Streams.{Streams}

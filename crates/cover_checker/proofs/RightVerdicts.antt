@@ -8,7 +8,7 @@ use Rattle.line_grammar.specs.Faults.{Refusal}
 use Rattle.line_grammar.specs.Input.{MayBe, IsNew}
 use Rattle.line_grammar.specs.Offence.{Grammar, IsFirstOffence}
 use Rattle.line_grammar.specs.Part.{Part, InFirst, InSecond, whole_text}
-use Rattle.line_grammar.specs.Reading.{TakesPart, FailsPart, RefusesFirst, StopsEarly, EndsWithin}
+use Rattle.line_grammar.specs.Reading.{TakesPart, FailsPart, RefusesFirst, StopsEarly, EndsAt, EndsWithin}
 use Rattle.line_grammar.specs.Text.{text_of}
 use Rattle.line_grammar.proofs.FrontLines.{text_of-append}
 use Rattle.line_grammar.proofs.Parts.{offence_within, second_within, fails_first, fails_second}
@@ -29,7 +29,7 @@ use Rattle.cover_checker.specs.declared.verdict.CheckFault.{CheckFault}
 use Rattle.cover_checker.specs.declared.verdict.Verdict.{Verdict}
 use Rattle.cover_checker.specs.declared.verdict.Verdict.TheVariants.{Accepted, Refused}
 use Rattle.cover_checker.specs.Steps.{TakesTree}
-use Rattle.cover_checker.specs.Verdicts.{IsRight, IsRightFor, IsRightAfter, Covers, IsAcceptance, EndsAt, StopsAt, StopsInTree, checked_tree}
+use Rattle.cover_checker.specs.Verdicts.{IsRight, IsRightFor, IsRightAfter, Covers, IsAcceptance, StopsAt, StopsInTree, checked_tree}
 
 -- the part after a header
 abbrev tree_after : ℕ → Heading → Part (List Node)

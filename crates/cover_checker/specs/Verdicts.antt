@@ -7,7 +7,7 @@ use Rattle.mcb_ends.specs.Reader.{Reader}
 use Rattle.line_grammar.specs.Input.{MayBe}
 use Rattle.line_grammar.specs.Offence.{Grammar}
 use Rattle.line_grammar.specs.Part.{Part, whole_text}
-use Rattle.line_grammar.specs.Reading.{RefusesFirst, StopsEarly}
+use Rattle.line_grammar.specs.Reading.{EndsAt, RefusesFirst, StopsEarly}
 use Rattle.line_grammar.specs.Text.{text_of}
 use Rattle.covering_file.specs.declared.file_kind.FileKind.TheVariants.{Cover}
 use Rattle.covering_file.specs.declared.node.Node.{Node}
@@ -50,13 +50,6 @@ is_check_read Read = true
 is_check_read Memory = false
 
 -- ---- how much was read
-
--- What was read ends at most one buffer of 4,096 bytes after the lines before this due line, which is reached.
-pub record EndsAt (g : Grammar) (due : g.Due) (left left' : Option (List ℕ)) : Type 0 where
-  pub reached : g.IsReached due
-  pub more : List ℕ
-  pub one_buffer : length more ≤ 4096
-  pub read : Consumes left left' (text_of (g.lines_before due) ++ more)
 
 -- An accepted file is read to its end. With any other answer reading stopped at some due line: for a refused file the refused one.
 abbrev pub StopsAt : ℕ → Option (List ℕ) → Option (List ℕ) → Result Verdict CheckFault → Type 0

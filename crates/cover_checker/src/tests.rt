@@ -66,57 +66,6 @@ fn accepts_whole_files(rt: HostRuntime) -> Result<(), Fail> {
     Ok(())
 }
 
-#[test]
-fn refuses_the_first_line_that_offends(rt: HostRuntime) -> Result<(), Fail> {
-    let alloc = rt.alloc();
-    let rows = [
-        // The whole square has obtuse triangles.
-        ("0", "1", COMPLETE, 10, Reason::NotShown),
-        (
-            "7",
-            "ssuoossooossooos1oooooooooooo",
-            COMPLETE,
-            12,
-            Reason::Uncovered,
-        ),
-        (
-            "7",
-            "ssooossooossooosooooooooooooo",
-            COMPLETE,
-            26,
-            Reason::NotApart,
-        ),
-        (
-            "7",
-            "ssooossooossooos2oooooooooooo",
-            COMPLETE,
-            26,
-            Reason::Number,
-        ),
-        ("6", DEEP, COMPLETE, 25, Reason::SplitTooDeep),
-        ("21", DEEP, COMPLETE, 9, Reason::Number),
-        ("7", DEEP, "end complete", 39, Reason::Ends),
-        ("7", DEEP, "end open 3\n", 39, Reason::EndLine),
-        ("7", DEEP, "end complete\no\n", 40, Reason::EndLine),
-    ];
-    for (depth, nodes, end, line, reason) in rows {
-        let bytes = file(alloc, SMALL, depth, nodes, end)?;
-        assert_eq!(rt;
-            said(&rt, alloc, MOST, bytes),
-            Ok(Verdict::Refused { line, reason }),
-            "{depth} {nodes} {end:?}"
-        );
-    }
-    assert_eq!(rt;
-        said(&rt, alloc, MOST, Vec::new(alloc)),
-        Ok(Verdict::Refused {
-            line: 1,
-            reason: Reason::Ends
-        })
-    );
-    Ok(())
-}
-
 // One node too many is the last of a line's reasons.
 #[test]
 fn refuses_one_node_too_many(rt: HostRuntime) -> Result<(), Fail> {

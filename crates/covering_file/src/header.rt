@@ -1,4 +1,4 @@
-ghost use Rattle.std.specs.Prelude.{◌≡◌, ◌≤◌, ◌↔◌, IsOk, IfOk, Err, MatchOption, IsTrue, All, length};
+ghost use Rattle.std.specs.Prelude.{◌≡◌, ◌≤◌, ◌↔◌, IsOk, IfOk, OnOk, IfErr, Err, MatchOption, IsTrue, All, length};
 ghost use Rattle.edge_words.specs.Stable.{IsStable};
 ghost use Rattle.edge_words.specs.Word.{IsWord};
 ghost use Rattle.covering_file.specs.Header.{IsStableWord, IsWordCount, IsDepth, IsHeading};
@@ -37,14 +37,12 @@ impl Header {
     {
         // What it answers tells the check that they are those of a polygon.
         let _corners = polygon.corners();
-        match first_fault(words.as_slice(), depth) {
-            Some(fault) => Err(fault),
-            None => Ok(Header {
-                polygon,
-                words,
-                depth,
-            }),
-        }
+        check_words(words.as_slice(), depth)?;
+        Ok(Header {
+            polygon,
+            words,
+            depth,
+        })
     }
 
     /// The polygon.
@@ -72,20 +70,21 @@ impl Header {
     }
 }
 
-// The first condition on words and a depth that fails, if one does.
-fn first_fault(words: &[Word], depth: u32) -> Option<HeaderFault>
-    ensures { MatchOption result (IsWordCount (length words.now) × All IsStableWord words.now × IsDepth depth) (IsFaultOf words.now depth) }
+// Passes the words and the depth of a header. Else the first condition that fails.
+fn check_words(words: &[Word], depth: u32) -> Result<(), HeaderFault>
+    ensures passed { OnOk result (IsWordCount (length words.now) × All IsStableWord words.now × IsDepth depth) }
+    ensures refused { IfErr result (IsFaultOf words.now depth) }
 {
     if !(1..=MAX_WORDS as usize).contains(&words.len()) {
-        return Some(HeaderFault::Words);
+        return Err(HeaderFault::Words);
     }
     if let Some(i) = first_unstable(words) {
-        return Some(HeaderFault::Unstable { i });
+        return Err(HeaderFault::Unstable { i });
     }
     if depth > MAX_LEVEL {
-        return Some(HeaderFault::Depth);
+        return Err(HeaderFault::Depth);
     }
-    None
+    Ok(())
 }
 
 // The number of the first word that is not stable.

@@ -67,6 +67,13 @@ pub record StopsEarly (g : Grammar) (old new : Reader) (left left' : Option (Lis
   pub reached : g.IsReached due
   pub stops : StopsAfter (g.lines_before due) old new left left'
 
+-- What was read ends at most one buffer of 4,096 bytes after the lines before this due line, which is reached.
+pub record EndsAt (g : Grammar) (due : g.Due) (left left' : Option (List ℕ)) : Type 0 where
+  pub reached : g.IsReached due
+  pub more : List ℕ
+  pub one_buffer : length more ≤ 4096
+  pub read : Consumes left left' (text_of (g.lines_before due) ++ more)
+
 -- A fault names the first line that offends, or comes at some due line.
 abbrev pub FailsPart : Grammar → Reader → Reader → Option (List ℕ) → Option (List ℕ) → Option Refusal → Type 0
 FailsPart g old new left left' (Some refusal) = RefusesFirst g old new left left' refusal

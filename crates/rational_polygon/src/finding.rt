@@ -1,5 +1,5 @@
 //! The first reason why corners make no polygon.
-ghost use Rattle.std.specs.Prelude.{◌≡◌, ℕ, ◌-◌, ◌<◌, ◌≤◌, ◌↔◌, All, IsTrue, MatchOption, length, slice_index_or};
+ghost use Rattle.std.specs.Prelude.{◌≡◌, ℕ, ◌-◌, ◌<◌, ◌≤◌, ◌↔◌, All, IsTrue, MatchOption, OnOk, IfErr, length, slice_index_or};
 ghost use Rattle.rational_polygon.specs.Outline.{Outline, IsGrid, IsCount, IsInside, IsNumber, IsConvexAt, IsStrictlyConvex, IsPolygon};
 ghost use Rattle.rational_polygon.specs.Fault.{IsFaultOf, IsFirstOutside, IsFirstTurn};
 
@@ -8,21 +8,24 @@ use crate::fault::PolygonFault;
 use crate::rectangle::on_grid;
 use crate::{MAX_CORNERS, MAX_GRID, MIN_CORNERS};
 
-/// The first condition of a polygon that fails, if one does.
-pub(crate) fn first_fault(grid: u32, corners: &[(u32, u32)]) -> Option<PolygonFault>
-    ensures { let outline : Outline = record { grid = grid; corners = corners.now } in
-        MatchOption result (IsPolygon outline) (IsFaultOf outline) }
+/// Passes the corners of a polygon. Else the first condition that fails.
+pub(crate) fn check_outline(grid: u32, corners: &[(u32, u32)]) -> Result<(), PolygonFault>
+    ensures passed { OnOk result (IsPolygon (record { grid = grid; corners = corners.now })) }
+    ensures refused { IfErr result (IsFaultOf (record { grid = grid; corners = corners.now })) }
 {
     if !(1..=MAX_GRID).contains(&grid) {
-        return Some(PolygonFault::Grid);
+        return Err(PolygonFault::Grid);
     }
     if !(MIN_CORNERS..=MAX_CORNERS).contains(&corners.len()) {
-        return Some(PolygonFault::Count);
+        return Err(PolygonFault::Count);
     }
     if let Some(i) = first_outside(grid, corners) {
-        return Some(PolygonFault::Corner { i });
+        return Err(PolygonFault::Corner { i });
     }
-    first_turn(grid, corners).map(|(i, j)| PolygonFault::Turn { i, j })
+    match first_turn(grid, corners) {
+        Some((i, j)) => Err(PolygonFault::Turn { i, j }),
+        None => Ok(()),
+    }
 }
 
 // Whether the corner lies strictly inside the triangle of the grid.

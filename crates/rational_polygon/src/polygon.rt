@@ -6,7 +6,7 @@ ghost use Rattle.rational_polygon.specs.declared.fault.PolygonFault.{PolygonFaul
 
 use crate::edge::is_left_of_edges;
 use crate::fault::PolygonFault;
-use crate::finding::first_fault;
+use crate::finding::check_outline;
 use crate::rectangle::is_in_rectangle;
 use rat_core::Frac;
 use std::marker::Model;
@@ -36,10 +36,8 @@ impl Polygon {
         ensures kept { IfOk result (λ polygon. polygon ≡ record { grid = grid; corners = corners.items }) }
         ensures refused { (fault : PolygonFault) → (result ≡ Err fault) ↔ IsFaultOf (record { grid = grid; corners = corners.items }) fault }
     {
-        match first_fault(grid, corners.as_slice()) {
-            Some(fault) => Err(fault),
-            None => Ok(Polygon { grid, corners }),
-        }
+        check_outline(grid, corners.as_slice())?;
+        Ok(Polygon { grid, corners })
     }
 
     /// How many grid steps make 1.

@@ -1,6 +1,6 @@
 use Rattle.std.proofs.Common.{arith, rules}
 use Rattle.covering_file.proofs.HeaderFaults.{stable_words}
-use Rattle.covering_file.proofs.header.first_fault.Goals as goal
+use Rattle.covering_file.proofs.header.check_words.Goals as goal
 
 pub returns-then-depth-gt-MAX_LEVEL : goal.returns-then-depth-gt-MAX_LEVEL
 returns-then-depth-gt-MAX_LEVEL c = (
