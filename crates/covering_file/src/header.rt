@@ -37,12 +37,14 @@ impl Header {
     {
         // What it answers tells the check that they are those of a polygon.
         let _corners = polygon.corners();
-        check_words(words.as_slice(), depth)?;
-        Ok(Header {
-            polygon,
-            words,
-            depth,
-        })
+        match check_words(words.as_slice(), depth) {
+            Ok(()) => Ok(Header {
+                polygon,
+                words,
+                depth,
+            }),
+            Err(fault) => Err(fault),
+        }
     }
 
     /// The polygon.
