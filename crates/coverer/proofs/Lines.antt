@@ -1,9 +1,10 @@
 -- The text of a covering, as it is written: the header, one node after another, the end line.
-use Rattle.std.proofs.Common.{◌≡◌, inl, inr, refl, sym, ap, ◌∙◌, subst, ℕ, ◌+◌, List, [], ◌∷◌, ◌++◌, map, Option, false}
+use Rattle.std.proofs.Common.{◌≡◌, inl, inr, refl, sym, ap, ◌∙◌, subst, ℕ, ◌+◌, List, [], ◌∷◌, ◌++◌, map, Option, false, arith}
 use Rattle.std.proofs.KnownBytes.{Appends-trans}
 use Rattle.std.proofs.lemmas.List.{append-nil, map-append}
 use Rattle.std.proofs.lemmas.List.Sums.{sum_by-append}
 use Rattle.std.specs.Io.KnownBytes.{Appends}
+use Rattle.std.specs.List.{sum_by}
 use Rattle.std.specs.Prelude.{cond, count_by}
 use Rattle.mcb_ends.specs.Bytes.{AppendsPrefix}
 use Rattle.mcb_ends.proofs.Written.{AppendsPrefix-then, AppendsPrefix-begun}
@@ -47,12 +48,19 @@ failed_in_one old mid new nodes n before cut =
 abbrev one_for : Node → ℕ
 one_for n = cond (is_uncovered n) 1 0
 
-pub uncovered_more : (nodes : List Node) → count_by is_uncovered (nodes ++ Uncovered ∷ []) ≡ count_by is_uncovered nodes + 1
-uncovered_more nodes = sum_by-append one_for nodes (Uncovered ∷ [])
+pub uncovered_more : (nodes : List Node) (n : Node) → n ≡ Uncovered → count_by is_uncovered (nodes ++ n ∷ []) ≡ count_by is_uncovered nodes + 1
+uncovered_more nodes n is =
+    let last : sum_by one_for (n ∷ []) ≡ 1 = ap (λ (m : Node). sum_by one_for (m ∷ [])) is in
+    sum_by-append one_for nodes (n ∷ []) ∙ ap (λ k. sum_by one_for nodes + k) last
 
-pub uncovered_same : (nodes : List Node) (n : Node) → is_uncovered n ≡ false → count_by is_uncovered (nodes ++ n ∷ []) ≡ count_by is_uncovered nodes + 0
+pub uncovered_same : (nodes : List Node) (n : Node) → is_uncovered n ≡ false → count_by is_uncovered (nodes ++ n ∷ []) ≡ count_by is_uncovered nodes
 uncovered_same nodes n is =
-    sum_by-append one_for nodes (n ∷ []) ∙ ap (λ b. count_by is_uncovered nodes + cond b 1 0) is
+    let last : sum_by one_for (n ∷ []) ≡ 0 = ap (λ b. 0 + cond b 1 0) is in
+    omega (arith, sum_by-append one_for nodes (n ∷ []), last)
+
+pub not_uncovered : (n : Node) → ¬ (n ≡ Uncovered) → is_uncovered n ≡ false
+not_uncovered Uncovered differs = absurd (differs refl)
+not_uncovered n differs = refl
 
 -- ---- the file
 

@@ -13,7 +13,7 @@ use Rattle.covering_file.specs.DueBoxes.{due_after, due_boxes, AreDue, StandsIn}
 use Rattle.covering_file.specs.Header.{Heading, IsHeading}
 use Rattle.covering_file.specs.Node.{IsLeaf}
 use Rattle.covering_file.specs.Faults.{IsListed}
-use Rattle.covering_file.proofs.Trees.{due_after-leaf}
+use Rattle.covering_file.proofs.Trees.{due_after-leaf, split_or_leaf}
 use Rattle.coverer.specs.declared.stack.Due.{Due}
 use Rattle.coverer.specs.declared.word_set.WordSet.{WordSet}
 use Rattle.coverer.specs.Begun.{IsBegun}
@@ -129,10 +129,26 @@ after_split limit h nodes set d others reached room cause shut =
           (All-cons (IsDueBox h) (box 3) others (one 3 (omega arith)) (All-tail (IsDueBox h) d others reached.each))));
     }
 
--- ---- the first due box
+-- ---- as the loop has it
+
+pub next_reached : (limit : ℕ) (h : Heading) (nodes : List Node) (due : List Due) (d : Due) (others : List Due) → HasReached limit h nodes due
+    → due ≡ d ∷ others → HasReached limit h nodes (d ∷ others)
+next_reached limit h nodes due d others reached is = subst (λ (ds : List Due). HasReached limit h nodes ds) is reached
 
 pub is_due_box : (limit : ℕ) (h : Heading) (nodes : List Node) (d : Due) (others : List Due) → HasReached limit h nodes (d ∷ others) → IsDueBox h d
 is_due_box limit h nodes d others reached = All-head (IsDueBox h) d others reached.each
+
+pub split_reached : (limit : ℕ) (h : Heading) (nodes : List Node) (n : Node) (set : WordSet) (d : Due) (others due : List Due)
+    → HasReached limit h nodes (d ∷ others)
+    → length nodes < limit → HasCause h d.place n → n ≡ Split → AreShutOut h.words set d.place → due ≡ due_children d.place set ++ others
+    → HasReached limit h (nodes ++ n ∷ []) due
+split_reached limit h nodes n set d others due reached room cause is shut now =
+    subst (λ (ds : List Due). HasReached limit h (nodes ++ n ∷ []) ds) (sym now)
+    (subst (λ (m : Node). HasReached limit h (nodes ++ m ∷ []) (due_children d.place set ++ others)) (sym is)
+    (after_split limit h nodes set d others reached room (subst (λ (m : Node). HasCause h d.place m) is cause) shut))
+
+pub leaf_if_not_split : (n : Node) → ¬ (n ≡ Split) → IsLeaf n
+leaf_if_not_split n differs = elim (split_or_leaf n) [ inl is ↦ absurd (differs is) | inr leaf ↦ leaf ]
 
 -- ---- the last node
 

@@ -1,6 +1,7 @@
 -- A covering that is complete has a sure tree.
 use Rattle.std.proofs.Common.{◌≡◌, inl, inr, refl, sym, ap, ◌∙◌, subst, ℕ, ◌+◌, List, [], ◌∷◌, length, false, true, arith}
 use Rattle.std.proofs.lemmas.List.Sums.{sum_by-append}
+use Rattle.std.specs.List.{sum_by}
 use Rattle.std.specs.Prelude.{cond, count_by}
 use Rattle.rational_polygon.specs.Square.{Square, unit_square}
 use Rattle.gradient_bounds.specs.Slacks as slacks
@@ -26,7 +27,10 @@ caused_is_sure h box Split cause covered = cause.2
 caused_is_sure h box Uncovered cause covered = cc
 
 counted_first : (n : Node) (nodes : List Node) → count_by is_uncovered (n ∷ nodes) ≡ cond (is_uncovered n) 1 0 + count_by is_uncovered nodes
-counted_first n nodes = sum_by-append (λ (m : Node). cond (is_uncovered m) 1 0) (n ∷ []) nodes
+counted_first n nodes =
+    let one = λ (m : Node). cond (is_uncovered m) 1 0 in
+    let here : sum_by one (n ∷ []) ≡ one n = omega arith in
+    sum_by-append one (n ∷ []) nodes ∙ ap (λ k. k + sum_by one nodes) here
 
 covered_first : (n : Node) (rest : ℕ) → cond (is_uncovered n) 1 0 + rest ≡ 0 → is_uncovered n ≡ false
 covered_first Uncovered rest none = absurd (omega (arith, none))

@@ -36,10 +36,16 @@ pub fn choose(
     ensures shut { AreShutOut header.now.words result.below place }
 {
     if place.apart(header.polygon()) {
-        return leaf(Node::Outside, words);
+        return Choice {
+            node: Node::Outside,
+            below: words,
+        };
     }
     if let Some(i) = first_clear(tests, place, words) {
-        return leaf(Node::Shown(i), words);
+        return Choice {
+            node: Node::Shown(i),
+            below: words,
+        };
     }
     if place.level < header.depth() {
         return Choice {
@@ -47,14 +53,10 @@ pub fn choose(
             below: without_shut(tests, place, words),
         };
     }
-    leaf(Node::Uncovered, words)
-}
-
-// A leaf, with nothing below it.
-fn leaf(node: Node, words: WordSet) -> Choice
-    ensures { result ≡ record { node = node; below = words } }
-{
-    Choice { node, below: words }
+    Choice {
+        node: Node::Uncovered,
+        below: words,
+    }
 }
 
 // The first word that is shown on the box.
