@@ -1,8 +1,8 @@
 -- How far a covering has come: the nodes so far, and the boxes that are due after them.
-use Rattle.std.proofs.Common.{◌≡◌, ◌≢◌, ◌⊎◌, inl, inr, refl, sym, ap, ◌∙◌, subst, ℕ, ◌+◌, ◌-◌, ◌<◌, ◌≤◌, List, [], ◌∷◌, ◌++◌, length, take, arith, length-append}
+use Rattle.std.proofs.Common.{◌≡◌, ◌≢◌, ◌⊎◌, inl, inr, refl, sym, ap, ◌∙◌, subst, ℕ, ◌<◌, ◌≤◌, List, [], ◌∷◌, ◌++◌, length, take, arith, length-append}
 use Rattle.std.specs.List.{All, fold}
 use Rattle.std.proofs.lemmas.Bool.{cases_lt}
-use Rattle.std.proofs.lemmas.List.{take-append-le, take_all}
+use Rattle.std.proofs.lemmas.List.{take-append-le}
 use Rattle.std.proofs.lemmas.List.Elements.{All-nil, All-cons, All-head, All-tail}
 use Rattle.std.proofs.lemmas.List.Sums.{fold-append}
 use Rattle.std.proofs.Math.Seq.{take-append_seam}
@@ -12,12 +12,11 @@ use Rattle.covering_file.specs.declared.node.Node.TheVariants.{Split}
 use Rattle.covering_file.specs.DueBoxes.{due_after, due_boxes, AreDue, StandsIn}
 use Rattle.covering_file.specs.Header.{Heading, IsHeading}
 use Rattle.covering_file.specs.Node.{IsLeaf}
-use Rattle.covering_file.specs.Faults.{IsListed}
 use Rattle.covering_file.proofs.Trees.{due_after-leaf, split_or_leaf}
 use Rattle.coverer.specs.declared.stack.Due.{Due}
 use Rattle.coverer.specs.declared.word_set.WordSet.{WordSet}
 use Rattle.coverer.specs.Begun.{IsBegun}
-use Rattle.coverer.specs.Causes.{HasCause, StandByCause}
+use Rattle.coverer.specs.Causes.{HasCause}
 use Rattle.coverer.specs.Stack.{due_at, due_children, places}
 use Rattle.coverer.specs.Words.{IsIn, AreShutOut}
 use Rattle.coverer.proofs.Shut.{shut_out_below}

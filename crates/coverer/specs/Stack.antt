@@ -1,5 +1,5 @@
 -- The boxes that are due, each with the words that are in question on it.
-use Rattle.std.specs.Prelude.{ℕ, ◌*◌, ◌≤◌, List, [], ◌∷◌, length, map, ⊤}
+use Rattle.std.specs.Prelude.{◌*◌, ◌≤◌, List, [], ◌∷◌, length, map, ⊤}
 use Rattle.rational_polygon.specs.Square.{Square, child}
 use Rattle.coverer.specs.declared.stack.Due.{Due}
 use Rattle.coverer.specs.declared.word_set.WordSet.{WordSet}

@@ -1,5 +1,5 @@
 -- The tests are those of the header's words, before and after each call.
-use Rattle.std.proofs.Common.{◌≡◌, ◌<◌, ◌∙◌, ℕ, List, sym, ap, subst, arith}
+use Rattle.std.proofs.Common.{◌∙◌, ℕ, List, sym, ap, subst, arith}
 use Rattle.rational_polygon.specs.Apart.{IsApart}
 use Rattle.rational_polygon.specs.Outline.{Outline}
 use Rattle.rational_polygon.specs.Square.{Square}

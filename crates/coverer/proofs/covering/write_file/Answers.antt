@@ -1,5 +1,5 @@
 -- The header, the nodes and the end line of a whole tree, or a prefix of them.
-use Rattle.std.proofs.Common.{◌≡◌, refl, sym, ap, ◌∙◌, subst, ℕ, ◌≤◌, true, false, List, arith}
+use Rattle.std.proofs.Common.{◌≡◌, refl, sym, subst, ℕ, ◌≤◌, Bool, true, false, not, arith}
 use Rattle.std.proofs.lemmas.Result.{err_from_is_err_and}
 use Rattle.std.specs.Io.KnownBytes.{Appends}
 use Rattle.mcb_ends.specs.Bytes.{AppendsPrefix}
@@ -9,6 +9,14 @@ use Rattle.covering_file.specs.Node.{end_line}
 use Rattle.coverer.specs.Begun.{begun_lines}
 use Rattle.coverer.proofs.Lines.{wrote_begun, wrote_whole, failed_in_nodes, failed_in_end}
 use Rattle.coverer.proofs.covering.write_file.Goals as goal
+
+is_false : (b : Bool) → not b ≡ true → b ≡ false
+is_false true is = sym is
+is_false false is = refl
+
+is_true : (b : Bool) → not b ≡ false → b ≡ true
+is_true true is = refl
+is_true false is = sym is
 
 pub returns-in_err-tree-clause-failed : goal.returns-in_err-tree-clause-failed
 returns-in_err-tree-clause-failed g c =
@@ -24,7 +32,7 @@ returns-then-not-tree-clause-covered g c =
     let k = g.K.Sink in
     let h = c.args.header.now in
     let tree = c.in_ok-tree.ensures.written in
-    let full = tree.full c.if-not-tree.true in (
+    let full = tree.full (is_false c.in_ok-tree.tree.is_whole c.if-not-tree.true) in (
       text_of (begun_lines h tree.nodes),
       record { nodes = tree.nodes; begun = tree.begun; answers = (tree.counted, full.0, full.1); is_text = refl },
       wrote_begun (k.written c.args.out.now) (k.written c.write_header.new.out) (k.written c.write_nodes.new.out) h tree.nodes
@@ -38,7 +46,7 @@ returns-in_err-write_end-clause-failed g c =
     let p = err_from_is_err_and c.from_residual-in_err-write_end.result c.from_residual-in_err-write_end.ensures.1 in
     rw p.1
     (failed_in_end c.args.limit (k.written c.args.out.now) (k.written c.write_header.new.out) (k.written c.write_nodes.new.out)
-    (k.written c.write_end.new.out) c.args.header.now tree.nodes tree.begun (tree.whole c.if-not-tree.false) c.in_ok-write_header.ensures.text tree.text
+    (k.written c.write_end.new.out) c.args.header.now tree.nodes tree.begun (tree.whole (is_true c.in_ok-tree.tree.is_whole c.if-not-tree.false)) c.in_ok-write_header.ensures.text tree.text
     (subst (λ (left : ℕ). AppendsPrefix (k.written c.write_nodes.new.out) (k.written c.write_end.new.out) (with_newline (end_line left))) tree.uncovered
     c.in_err-write_end.ensures.text))
 
@@ -49,7 +57,7 @@ returns-then-left-gt0-clause-covered g c =
     let tree = c.in_ok-tree.ensures.written in
     let some : 1 ≤ c.in_ok-tree.tree.left = omega (arith, c.if-left-gt0.true) in (
       text_of (file_lines h tree.nodes),
-      record { nodes = tree.nodes; begun = tree.begun; answers = (tree.counted, tree.whole c.if-not-tree.false, tree.uncovered, some); is_text = refl },
+      record { nodes = tree.nodes; begun = tree.begun; answers = (tree.counted, tree.whole (is_true c.in_ok-tree.tree.is_whole c.if-not-tree.false), tree.uncovered, some); is_text = refl },
       wrote_whole (k.written c.args.out.now) (k.written c.write_header.new.out) (k.written c.write_nodes.new.out) (k.written c.write_end.new.out) h tree.nodes
           c.in_ok-write_header.ensures.text tree.text
           (subst (λ (left : ℕ). Appends (k.written c.write_nodes.new.out) (k.written c.write_end.new.out) (with_newline (end_line left))) tree.uncovered
@@ -65,7 +73,7 @@ returns-clause-covered g c =
       record {
         nodes = tree.nodes;
         begun = tree.begun;
-        answers = (tree.counted, tree.whole c.if-not-tree.false, omega (arith, tree.uncovered, c.if-left-gt0.false));
+        answers = (tree.counted, tree.whole (is_true c.in_ok-tree.tree.is_whole c.if-not-tree.false), omega (arith, tree.uncovered, c.if-left-gt0.false));
         is_text = refl;
       },
       wrote_whole (k.written c.args.out.now) (k.written c.write_header.new.out) (k.written c.write_nodes.new.out) (k.written c.write_end.new.out) h tree.nodes

@@ -1,11 +1,8 @@
 -- Each node stands by its cause at the first due box.
-use Rattle.std.proofs.Common.{◌≡◌, refl, sym, ap, ◌∙◌, subst, ◌<◌, List, [], ◌∷◌, ◌++◌, length, length-append, arith}
-use Rattle.std.proofs.KnownBytes.{Appends-refl}
+use Rattle.std.proofs.Common.{refl, sym, ap, ◌∙◌, subst, ◌<◌, [], ◌∷◌, ◌++◌, length, length-append, arith}
+use Rattle.std.proofs.KnownBytes.{Appends-nil}
 use Rattle.std.proofs.lemmas.Result.{err_from_is_err_and}
-use Rattle.covering_file.specs.declared.node.Node.{Node}
-use Rattle.covering_file.specs.declared.node.Node.TheVariants.{Uncovered}
 use Rattle.covering_file.specs.Node.{IsLeaf, is_uncovered}
-use Rattle.coverer.specs.Words.{AreShutOut}
 use Rattle.coverer.proofs.Lines.{wrote_one, failed_in_one, uncovered_more, uncovered_same, not_uncovered}
 use Rattle.coverer.proofs.Reached.{HasReached, at_start, begun_next, next_reached, is_due_box, split_reached, after_leaf, leaf_if_not_split}
 use Rattle.coverer.proofs.nodes.write_nodes.Goals as goal
@@ -20,7 +17,7 @@ loop-place-init g c =
           (at_start c.args.limit c.args.header.now c.all.result c.words-words.ensures.is_heading c.all.ensures);
       counted = refl;
       uncovered = refl;
-      text = Appends-refl (g.K.Sink.written c.args.out.now);
+      text = Appends-nil (g.K.Sink.written c.args.out.now);
       room = refl;
       faults = refl;
     }
