@@ -14,3 +14,6 @@ mod word_set;
 
 pub use answer::{CoverFault, Covered};
 pub use covering::cover;
+
+#[cfg(test)]
+mod tests;
