@@ -15,6 +15,11 @@ use Rattle.rational_polygon.specs.declared.TheConstants.{MAX_GRID}
 abbrev pub number_up_to : ℕ → List ℕ → Option ℕ
 number_up_to bound text = let n = digits_value 10 text in if nat_le n bound && bytes_eq text (decimal n) then Some n else None
 
+-- the number, where it is at least so much
+abbrev pub at_least : ℕ → Option ℕ → Option ℕ
+at_least low None = None
+at_least low (Some n) = if nat_le low n then Some n else None
+
 -- the angles p / d and q / d, in half turns, at corners 1 and 2
 pub record Angles : Type 0 where
   pub p : ℕ

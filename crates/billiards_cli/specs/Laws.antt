@@ -4,7 +4,9 @@ use Rattle.edge_words.specs.Reading.{Spells}
 use Rattle.gradient_bounds.specs.Clear.{IsClearAtPoint}
 use Rattle.gradient_bounds.specs.Corridor.{HasCorridor}
 use Rattle.gradient_bounds.specs.Slacks.{sure}
+use Rattle.covering_file.specs.Header.{IsHeading}
 use Rattle.billiards_cli.specs.Arguments.{Angles}
+use Rattle.billiards_cli.specs.Jobs.{IsJobNumber, job_heading}
 use Rattle.billiards_cli.specs.Commands.At.{AtTriangle, IsAtAnswer}
 use Rattle.billiards_cli.specs.Commands.Word.{IsWordAnswer}
 use Rattle.billiards_cli.specs.declared.status.Status.{Status}
@@ -27,3 +29,7 @@ abbrev pub AtAnswersDifferBetween : Type 0
 AtAnswersDifferBetween = (argument text text' : List ℕ) (triangle : Angles) (status status' : Status) → IsAtAnswer argument triangle status text
     → IsAtAnswer argument triangle status' text' → status ≢ OutOfMemory → status' ≢ OutOfMemory
     → ((status ≡ status') × (text ≡ text')) ⊎ IsBetween argument triangle
+
+-- each generated job is a job
+abbrev pub GeneratedIsJob : Type 0
+GeneratedIsJob = (k : ℕ) → IsJobNumber k → IsHeading (job_heading k)

@@ -1,6 +1,6 @@
 //! How much freedom right answers leave, over the definitions alone: each function's contract is a law. The program calls
 //! none.
-ghost use Rattle.billiards_cli.specs.Laws.{WordAnswerIsOne, AtAnswersDifferBetween};
+ghost use Rattle.billiards_cli.specs.Laws.{WordAnswerIsOne, AtAnswersDifferBetween, GeneratedIsJob};
 
 /// Two right answers of `word` to one input, neither of which is that memory is wanting, have one status and one text.
 pub fn word_answer_is_one()
@@ -11,4 +11,9 @@ pub fn word_answer_is_one()
 /// a corridor at the triangle and is not clear there with the wider slack.
 pub fn at_answers_differ_between()
     ensures { AtAnswersDifferBetween }
+{}
+
+/// Each generated job is a job: a polygon, a stable word and a depth within the limits.
+pub fn generated_is_job()
+    ensures { GeneratedIsJob }
 {}
