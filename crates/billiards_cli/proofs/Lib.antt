@@ -10,4 +10,5 @@ pub mod WordAnswers
 pub mod CheckAnswers
 pub mod AtAnswers
 pub mod JobAnswers
+pub mod CoverAnswers
 pub mod OneAnswer

@@ -40,9 +40,9 @@ pub record CoversAndChecks (k : ℕ) (end : Covered) (verdict : Status) (line : 
 -- Done where the file is complete, which is then accepted, and not shown where boxes are left uncovered.
 abbrev pub IsDemoAnswer : ℕ → Status → List ℕ → Type 0
 IsDemoAnswer k Done text =
-    (nodes : ℕ) (line : List ℕ) × CoversAndChecks k (covered.Complete nodes) Done line × (text ≡ demo_text k nodes 0 line)
+    (nodes : ℕ) × (line : List ℕ) × CoversAndChecks k (covered.Complete nodes) Done line × (text ≡ demo_text k nodes 0 line)
 IsDemoAnswer k NotShown text =
-    (nodes left : ℕ) (verdict : Status) (line : List ℕ) × CoversAndChecks k (covered.OpenBoxes nodes left) verdict line
+    (nodes left : ℕ) × (verdict : Status) × (line : List ℕ) × CoversAndChecks k (covered.OpenBoxes nodes left) verdict line
     × (text ≡ demo_text k nodes left line)
 IsDemoAnswer k OutOfMemory text = text ≡ []
 IsDemoAnswer k status text = ⊥
