@@ -78,7 +78,7 @@ are_inside k is =
     All-cons (IsInside 768) lower (right ∷ left ∷ []) (lower_corner k is)
     (All-cons (IsInside 768) right (left ∷ []) (right_corner k is) (All-cons (IsInside 768) left [] (left_corner k is) (All-nil (IsInside 768))))
 
-is_polygon : (k : ℕ) → IsJobNumber k → IsPolygon (job_outline k)
+pub is_polygon : (k : ℕ) → IsJobNumber k → IsPolygon (job_outline k)
 is_polygon k is = record {
   grid = (lit≤ tt, lit≤ tt);
   count = (lit≤ tt, lit≤ tt);

@@ -11,4 +11,6 @@ pub mod CheckAnswers
 pub mod AtAnswers
 pub mod JobAnswers
 pub mod CoverAnswers
+pub mod CoverSizes
+pub mod DemoAnswers
 pub mod OneAnswer

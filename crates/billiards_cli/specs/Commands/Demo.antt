@@ -1,5 +1,5 @@
 -- The command `demo`: the covering of a generated job, and the verdict on the file that was made.
-use Rattle.std.specs.Prelude.{◌≡◌, ◌≢◌, ◌⊎◌, ℕ, zero, suc, List, [], ◌∷◌, codes, None}
+use Rattle.std.specs.Prelude.{◌≡◌, ◌≢◌, ◌⊎◌, ℕ, zero, suc, List, [], ◌∷◌, ◌++◌, codes, None}
 use Rattle.std.specs.Option.{option_map}
 use Rattle.std.specs.declared.option.Option.{Option}
 use Rattle.std.specs.List.{concat}
@@ -12,7 +12,7 @@ use Rattle.coverer.specs.Begun.{IsCover}
 use Rattle.coverer.specs.declared.answer.Covered.{Covered}
 use Rattle.coverer.specs.declared.answer.Covered.TheVariants as covered
 use Rattle.billiards_cli.specs.Commands.Check.{IsCheckAnswer, accepted_text}
-use Rattle.billiards_cli.specs.Jobs.{job_number, job_heading}
+use Rattle.billiards_cli.specs.Jobs.{IsJobNumber, job_number, job_heading}
 use Rattle.billiards_cli.specs.Refusals.{newline, refused_text}
 use Rattle.billiards_cli.specs.declared.commands.demo.making.Made.{Made}
 use Rattle.billiards_cli.specs.declared.request.Request.{Request}
@@ -25,10 +25,14 @@ abbrev pub demo_request : List (List ℕ) → Option Request
 demo_request (text ∷ []) = option_map request.Demo (job_number text)
 demo_request arguments = None
 
--- the number of the job, how many nodes its covering has, how many of them are uncovered, and the line of a verdict
+-- the number of the job, how many nodes its covering has, and how many of them are uncovered
+abbrev pub covered_text : ℕ → ℕ → ℕ → List ℕ
+covered_text k nodes left =
+    concat (codes "job " ∷ decimal k ∷ codes "\ncovered nodes=" ∷ decimal nodes ∷ codes " open=" ∷ decimal left ∷ newline ∷ [])
+
+-- and then the line of a verdict
 abbrev pub demo_text : ℕ → ℕ → ℕ → List ℕ → List ℕ
-demo_text k nodes left line =
-    concat (codes "job " ∷ decimal k ∷ codes "\ncovered nodes=" ∷ decimal nodes ∷ codes " open=" ∷ decimal left ∷ newline ∷ line ∷ [])
+demo_text k nodes left line = covered_text k nodes left ++ line
 
 -- the job was covered with this end, and on the file that was made `check` may write this line with this status
 pub record CoversAndChecks (k : ℕ) (end : Covered) (verdict : Status) (line : List ℕ) : Type 0 where
@@ -63,8 +67,14 @@ abbrev pub covered_with : ℕ → ℕ → Covered
 covered_with nodes zero = covered.Complete nodes
 covered_with nodes (suc more) = covered.OpenBoxes nodes (suc more)
 
+-- the status that goes with so many uncovered nodes
+abbrev pub status_with : ℕ → Status
+status_with zero = Done
+status_with (suc more) = NotShown
+
 -- these are the sizes of a covering of the job, and the verdict on its file is right
 pub record IsMade (k : ℕ) (made : Made) : Type 0 where
+  pub is_number : IsJobNumber k
   pub file : List ℕ
   pub cover : IsCover MAX_NODES (job_heading k) (covered_with made.nodes made.left) file
   pub right : IsRight MAX_NODES file made.verdict

@@ -2,6 +2,7 @@
 ghost use Rattle.std.specs.Prelude.{◌≡◌, ◌⊎◌, ℕ, List, Option};
 ghost use Rattle.mcb_ends.specs.Bytes.{Writes};
 ghost use Rattle.mcb_ends.specs.Causes.{HasCause};
+ghost use Rattle.billiards_cli.specs.Commands.Demo as demo;
 ghost use Rattle.billiards_cli.specs.Commands.Demo.{demo_request, demo_text, verdict_text};
 ghost use Rattle.billiards_cli.specs.Requests.{command_of};
 ghost use Rattle.billiards_cli.specs.Services.{Serves};
@@ -40,15 +41,18 @@ pub(crate) fn demo<K: Sink>(alloc: Global, number: &JobNumber, out: &mut K) -> S
         result }
 {
     match make(alloc, number) {
-        Ok(made) => {
-            let status = if made.left > 0 {
-                Status::NotShown
-            } else {
-                Status::Done
-            };
-            after_writing(status, write_made(number, &made, out))
-        }
+        Ok(made) => after_writing(status_with(made.left), write_made(number, &made, out)),
         Err(OutOfMemory) => Status::OutOfMemory,
+    }
+}
+
+// The status that goes with so many uncovered nodes.
+fn status_with(left: u32) -> Status
+    ensures { result ≡ demo.status_with left }
+{
+    match left {
+        0 => Status::Done,
+        _ => Status::NotShown,
     }
 }
 

@@ -5,7 +5,7 @@ ghost use Rattle.covering_file.specs.declared.TheConstants.{MAX_NODES};
 ghost use Rattle.cover_checker.specs.Verdicts.{IsRight};
 ghost use Rattle.coverer.specs.Begun.{IsCover};
 ghost use Rattle.billiards_cli.specs.Commands.Demo.{IsMade, covered_with};
-ghost use Rattle.billiards_cli.specs.Jobs.{IsJobNumber, job_heading};
+ghost use Rattle.billiards_cli.specs.Jobs.{IsJobNumber, job_outline, job_word, job_heading};
 
 use crate::JobNumber;
 use cover_checker::{CheckFault, Verdict, check};
@@ -58,14 +58,16 @@ fn cover_generated<K: Sink>(
     requires room { K.room out.old ≡ Some ROOM }
     requires empty { K.written out.old ≡ Some [] }
     requires whole { K.faults out.old ≡ 0 }
-    ensures { IfOk result (λ size. (file : List ℕ) × (K.written out.new ≡ Some file)
+    ensures is_number { IfOk result (λ _. IsJobNumber number.now) }
+    ensures covered { IfOk result (λ size. (file : List ℕ) × (K.written out.new ≡ Some file)
         × IsCover MAX_NODES (job_heading number.now) (covered_with size.nodes size.left) file) }
 {
     let header = generated(alloc, number)?;
     match cover(alloc, &header, MAX_NODES, out) {
         Ok(Covered::Complete { nodes }) => Ok(Size { nodes, left: 0 }),
         Ok(Covered::OpenBoxes { nodes, left }) => Ok(Size { nodes, left }),
-        Ok(Covered::Full { .. }) | Err(CoverFault::Write) => unreachable!(),
+        Ok(Covered::Full { .. }) => unreachable!(),
+        Err(CoverFault::Write) => unreachable!(),
         Err(CoverFault::Memory) => Err(OutOfMemory),
     }
 }
@@ -86,10 +88,23 @@ fn generated(alloc: Global, number: &JobNumber) -> Result<Header, OutOfMemory>
     ensures heading { IfOk result (λ header. header ≡ job_heading number.now) }
     ensures is_number { IfOk result (λ _. IsJobNumber number.now) }
 {
+    let polygon = generated_polygon(alloc, number)?;
+    let words = vec![in alloc; generated_word(alloc)]?;
+    Ok(Header::new(polygon, words, 10).unwrap())
+}
+
+fn generated_polygon(alloc: Global, number: &JobNumber) -> Result<Polygon, OutOfMemory>
+    ensures outline { IfOk result (λ polygon. polygon ≡ job_outline number.now) }
+    ensures is_number { IfOk result (λ _. IsJobNumber number.now) }
+{
     let near = number.near_side();
     let far = number.far_side();
     let corners = vec![in alloc; (near, far), (near, near), (far, near)]?;
-    let polygon = Polygon::new(768, corners).unwrap();
-    let words = vec![in alloc; Word::read(alloc, b"123123").unwrap()]?;
-    Ok(Header::new(polygon, words, 10).unwrap())
+    Ok(Polygon::new(768, corners).unwrap())
+}
+
+fn generated_word(alloc: Global) -> Word
+    ensures { result ≡ job_word }
+{
+    Word::read(alloc, b"123123").unwrap()
 }
