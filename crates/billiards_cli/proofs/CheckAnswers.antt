@@ -24,7 +24,7 @@ abbrev pub checked : Grammar
 checked = file_grammar check_claims MAX_NODES
 
 -- a file with a sure tree is not refused
-check_answer_is_due : (input : List ℕ) (ending : Status) (text : List ℕ) → IsCheckAnswer input ending text → IsCheckDue input ending
+pub check_answer_is_due : (input : List ℕ) (ending : Status) (text : List ℕ) → IsCheckAnswer input ending text → IsCheckDue input ending
 check_answer_is_due input status.Done text answer sure = inl refl
 check_answer_is_due input status.OutOfMemory text answer sure = inr refl
 check_answer_is_due input status.Malformed text answer sure =

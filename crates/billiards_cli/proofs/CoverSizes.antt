@@ -7,7 +7,7 @@ use Rattle.std.proofs.lemmas.List.Sums.{count_by-le-length}
 use Rattle.std.proofs.lemmas.Fmt.{length-decimal-le}
 use Rattle.mcb_ends.specs.Bytes.{AppendsPrefix, IsHonest}
 use Rattle.mcb_ends.specs.Causes.{Rose}
-use Rattle.line_grammar.specs.Text.{text_of, named_line, two_fields}
+use Rattle.line_grammar.specs.Text.{text_of, two_fields}
 use Rattle.line_grammar.proofs.FrontLines.{text_of-append}
 use Rattle.line_grammar.proofs.Numbers.{length-decimal}
 use Rattle.rational_polygon.specs.Square.{Square, unit_square}
@@ -15,8 +15,8 @@ use Rattle.covering_file.specs.declared.TheConstants.{MAX_NODES}
 use Rattle.covering_file.specs.declared.file_kind.FileKind.TheVariants.{Cover}
 use Rattle.covering_file.specs.declared.node.Node.{Node}
 use Rattle.covering_file.specs.declared.node.Node.TheVariants.{Split, Outside, Shown, Uncovered}
-use Rattle.covering_file.specs.DueBoxes.{children, due_after, StandsIn}
-use Rattle.covering_file.specs.FilePart.{due_end, tree_lines, file_lines}
+use Rattle.covering_file.specs.DueBoxes.{children, StandsIn}
+use Rattle.covering_file.specs.FilePart.{due_end, file_lines}
 use Rattle.covering_file.specs.Header.{Heading, header_lines}
 use Rattle.covering_file.specs.Node.{is_uncovered, node_line, end_line}
 use Rattle.covering_file.proofs.Trees.{AreDueFrom, due_behind, each_stands}
@@ -125,10 +125,29 @@ header_is_short k is =
     let near : near_side k < 2 ^ 32 = omega (arith, is) in
     let far : far_side k < 2 ^ 32 = omega (arith, is) in
     All-from_recursion IsShort (header_lines Cover (job_heading k)) (
-      lit≤ tt, (named_is_short (codes "grid") 768 (lit≤ tt) (lit< tt), (named_is_short (codes "polygon") 3 (lit≤ tt) (lit< tt), (
-      corner_is_short (near_side k) (far_side k) near far, (corner_is_short (near_side k) (near_side k) near near, (
-      corner_is_short (far_side k) (near_side k) far near, (named_is_short (codes "words") 1 (lit≤ tt) (lit< tt), (
-      lit≤ tt, (named_is_short (codes "depth") 10 (lit≤ tt) (lit< tt), tt))))))))
+      lit≤ tt,
+      (
+        named_is_short (codes "grid") 768 (lit≤ tt) (lit< tt),
+        (
+          named_is_short (codes "polygon") 3 (lit≤ tt) (lit< tt),
+          (
+            corner_is_short (near_side k) (far_side k) near far,
+            (
+              corner_is_short (near_side k) (near_side k) near near,
+              (
+                corner_is_short (far_side k) (near_side k) far near,
+                (
+                  named_is_short (codes "words") 1 (lit≤ tt) (lit< tt),
+                  (
+                    lit≤ tt,
+                    (named_is_short (codes "depth") 10 (lit≤ tt) (lit< tt), tt),
+                  ),
+                ),
+              ),
+            ),
+          ),
+        ),
+      ),
     )
 
 both_sizes : (lines more : List (List ℕ)) → length (text_of (lines ++ more)) ≡ length (text_of lines) + length (text_of more)

@@ -1,5 +1,5 @@
 -- The right answers of `demo`.
-use Rattle.std.proofs.Common.{◌≡◌, ◌≢◌, ℕ, zero, suc, List, [], Option, refl, inl, inr}
+use Rattle.std.proofs.Common.{◌≢◌, ℕ, zero, suc, List, Option, refl, inl, inr}
 use Rattle.line_grammar.specs.declared.reason.Reason.{Reason}
 use Rattle.line_grammar.specs.declared.reason.Reason.TheVariants as reason
 use Rattle.covering_file.specs.declared.TheConstants.{MAX_NODES}
@@ -17,7 +17,7 @@ use Rattle.billiards_cli.specs.Requests.{command_of}
 use Rattle.billiards_cli.specs.Services.{IsAnswer}
 use Rattle.billiards_cli.specs.declared.request.Request.TheVariants as request
 use Rattle.billiards_cli.specs.declared.status.Status.{Status}
-use Rattle.billiards_cli.specs.declared.status.Status.TheVariants.{Done, NotShown, Malformed, OutOfMemory}
+use Rattle.billiards_cli.specs.declared.status.Status.TheVariants.{Done, NotShown, OutOfMemory}
 use Rattle.billiards_cli.proofs.CheckAnswers.{refusal_answer}
 use Rattle.billiards_cli.proofs.Inputs.{some_input}
 use Rattle.billiards_cli.proofs.Jobs.{generated_is_job}
@@ -71,7 +71,10 @@ pub made_answer : (k nodes left : ℕ) (verdict : Verdict) (file : List ℕ) →
 made_answer k nodes zero verdict file is cover right =
     (nodes, verdict_text verdict, record { file = file; cover = cover; checked = accepted k nodes file verdict is cover right; is_verdict = λ is. cc }, refl)
 made_answer k nodes (suc more) verdict file is cover right = (
-  nodes, suc more, verdict_status verdict, verdict_text verdict,
+  nodes,
+  suc more,
+  verdict_status verdict,
+  verdict_text verdict,
   record { file = file; cover = cover; checked = verdict_answer file verdict right; is_verdict = is_verdict verdict },
   refl,
 )

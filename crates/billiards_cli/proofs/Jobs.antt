@@ -1,9 +1,9 @@
 -- Generated jobs are jobs.
-use Rattle.std.proofs.Common.{◌≡◌, ◌≢◌, ℕ, zero, suc, ◌+◌, ◌-◌, ◌*◌, ◌<◌, ◌≤◌, List, [], ◌∷◌, ◌++◌, length, All, pos, ◌-ℤ◌, refl, sym, subst, ap, ap₂, ◌∙◌, lit<, lit≤}
-use Rattle.std.proofs.Common.{arith, mul-pos, append_assoc, get_or, ◌%◌}
+use Rattle.std.proofs.Common.{◌≡◌, ◌≢◌, ℕ, zero, suc, ◌+◌, ◌*◌, ◌<◌, List, [], ◌∷◌, All, pos, ◌-ℤ◌, refl, sym, subst, ap, ap₂, ◌∙◌, lit<, lit≤}
+use Rattle.std.proofs.Common.{arith, mul-pos, get_or, ◌%◌}
 use Rattle.std.proofs.lemmas.Int.{ints}
 use Rattle.std.proofs.lemmas.List.Elements.{All-cons, All-nil}
-use Rattle.ring_solver.specs.Expression.{num, ◌⊟◌, ◌⊠◌}
+use Rattle.ring_solver.specs.Expression.{◌⊟◌, ◌⊠◌}
 use Rattle.ring_solver.proofs.Solver.{ring₂}
 use Rattle.rat_core.specs.Fraction.{ℚ, ◌÷◌, whole, ◌-ℚ◌, ◌*ℚ◌, ◌<ℚ◌}
 use Rattle.rat_core.proofs.Laws.{ℚ_ring, over-product}
@@ -11,7 +11,6 @@ use Rattle.rat_core.proofs.Order.{over_positive}
 use Rattle.rat_core.proofs.Quotients.{over-sub_same}
 use Rattle.rational_polygon.specs.Outline.{IsInside, IsNumber, IsConvexAt, IsPolygon}
 use Rattle.edge_words.specs.Letters.{IsLetter}
-use Rattle.edge_words.specs.Word.{IsWord}
 use Rattle.edge_words.proofs.Balance.{stable_from_letters}
 use Rattle.edge_words.proofs.Digits.{differ_from_indices}
 use Rattle.covering_file.specs.Header.{IsStableWord, IsHeading}

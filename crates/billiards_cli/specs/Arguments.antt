@@ -1,7 +1,6 @@
 -- What stands on the command line.
-use Rattle.std.specs.Prelude.{ℕ, ◌+◌, List, Some, None, decimal, nat_le, nat_lt, ◌&&◌, if◌then◌else◌, Bool, Ok, Err}
+use Rattle.std.specs.Prelude.{ℕ, ◌+◌, List, Some, None, decimal, nat_le, nat_lt, ◌&&◌, if◌then◌else◌, Bool}
 use Rattle.std.specs.declared.option.Option.{Option}
-use Rattle.std.specs.declared.result.Result.{Result}
 use Rattle.std.specs.Str.{bytes_eq}
 use Rattle.std.specs.Str.Parse.{digits_value}
 use Rattle.edge_words.specs.Reading.{Spells, digits_of}

@@ -1,4 +1,4 @@
-use Rattle.std.proofs.Common.{◌≡◌, [], Err, ap, refl, inl}
+use Rattle.std.proofs.Common.{[], refl, inl}
 use Rattle.covering_file.specs.HeaderPart.{job_part}
 use Rattle.billiards_cli.specs.Commands.Cover.{IsRefusedJob, CoverWantsMemory}
 use Rattle.billiards_cli.specs.Refusals.{refused_text, RefusesLine}
@@ -30,7 +30,7 @@ returns-in-Err-Line-clause-serves g c =
     let text = refused_text line reason in
     let right : RefusesLine (IsRefusedJob names.input) text = record { line = line; reason = reason; refused = names.first; named = refl } in
     served _ _ _ Malformed _ text c.write_refusal.result tt
-    (cover_answer left left' names.input Malformed text (λ is. cc) names.may_be right (inl names.stops))
+    (cover_answer left left' names.input Malformed text tt names.may_be right (inl names.stops))
     (rw c.in-Err-Line.field-0-is at c.in-Err-Line.ensures.cause)
     (rw c.in-Err-Line.field-0-is at c.write_refusal.ensures.text) c.write_refusal.ensures.cause c.after_writing.ensures.after
 
@@ -54,6 +54,6 @@ returns-in-Err-Memory-clause-serves g c =
     let right : CoverWantsMemory begins.0 [] = record { begins = begins.2; text_is = refl } in
     let stops : StopsAtNamed job_part.grammar [] left left' = record { due = fails.0; named = inl refl; ends = fails.1 } in
     record {
-      leaves = record { answer = cover_answer left left' begins.0 OutOfMemory [] (λ is. cc) begins.1 right (inl stops); unwritten = refl };
+      leaves = record { answer = cover_answer left left' begins.0 OutOfMemory [] tt begins.1 right (inl stops); unwritten = refl };
       counts = (rw c.in-Err-Memory.field-0-is at c.in-Err-Memory.ensures.cause, refl);
     }

@@ -1,4 +1,4 @@
-use Rattle.std.proofs.Common.{◌≡◌, [], refl, inr}
+use Rattle.std.proofs.Common.{[], refl, inr}
 use Rattle.covering_file.specs.Header.{job_text}
 use Rattle.billiards_cli.specs.Commands.Cover.{IsJobText, CoverWantsMemory}
 use Rattle.billiards_cli.specs.declared.status.Status.TheVariants.{Done, NotShown, WriteFault, OutOfMemory, Full}
@@ -10,7 +10,7 @@ returns-in-Ok-Complete-clause-serves g c = λ left left' faults faults' may_be e
     let h = c.args.header.now in
     let covers = rw c.in-Ok-Complete.field-0-is at c.in-Ok-Complete.ensures.text in
     let job = covers_job h _ covers.0 c.requires covers.1 in
-    let answer = cover_answer left left' (job_text h) Done covers.0 (λ is. cc) may_be (_, job) end in
+    let answer = cover_answer left left' (job_text h) Done covers.0 tt may_be (_, job) end in
     record {
       leaves = record { text = covers.0; answer = answer; written = covers.2 };
       counts = (stood, c.in-Ok-Complete.ensures.cause);
@@ -21,7 +21,7 @@ returns-in-Ok-OpenBoxes-clause-serves g c = λ left left' faults faults' may_be 
     let h = c.args.header.now in
     let covers = rw c.in-Ok-OpenBoxes.field-0-is at c.in-Ok-OpenBoxes.ensures.text in
     let job = covers_job h _ covers.0 c.requires covers.1 in
-    let answer = cover_answer left left' (job_text h) NotShown covers.0 (λ is. cc) may_be (_, _, job) end in
+    let answer = cover_answer left left' (job_text h) NotShown covers.0 tt may_be (_, _, job) end in
     record {
       leaves = record { text = covers.0; answer = answer; written = covers.2 };
       counts = (stood, c.in-Ok-OpenBoxes.ensures.cause);
@@ -32,7 +32,7 @@ returns-in-Ok-Full-clause-serves g c = λ left left' faults faults' may_be end s
     let h = c.args.header.now in
     let covers = rw c.in-Ok-Full.field-0-is at c.in-Ok-Full.ensures.text in
     let job = covers_job h _ covers.0 c.requires covers.1 in
-    let answer = cover_answer left left' (job_text h) Full covers.0 (λ is. cc) may_be (_, job) end in
+    let answer = cover_answer left left' (job_text h) Full covers.0 tt may_be (_, job) end in
     record {
       leaves = record { text = covers.0; answer = answer; written = covers.2 };
       counts = (stood, c.in-Ok-Full.ensures.cause);
@@ -63,7 +63,7 @@ returns-in-Err-Memory-clause-serves g c = λ left left' faults faults' may_be en
     let right : CoverWantsMemory (job_text h) [] = record { begins = job_begins h; text_is = refl } in
     record {
       leaves = record {
-        answer = cover_answer left left' (job_text h) OutOfMemory [] (λ is. cc) may_be right (inr (refl, end));
+        answer = cover_answer left left' (job_text h) OutOfMemory [] tt may_be right (inr (refl, end));
         unwritten = rw c.in-Err-Memory.field-0-is at c.in-Err-Memory.ensures.text;
       };
       counts = (stood, rw c.in-Err-Memory.field-0-is at c.in-Err-Memory.ensures.cause);

@@ -1,4 +1,4 @@
-use Rattle.std.proofs.Common.{◌≡◌, ◌∙◌, decimal, subst}
+use Rattle.std.proofs.Common.{◌≡◌, decimal}
 use Rattle.billiards_cli.specs.Jobs.{near_side, far_side}
 use Rattle.billiards_cli.proofs.JobAnswers.{job_text-pieces}
 use Rattle.billiards_cli.proofs.commands.job.write_job.Goals as goal
