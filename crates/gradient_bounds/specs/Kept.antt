@@ -1,29 +1,50 @@
--- What a `Prepared` keeps: each defining function of its word.
+-- What a `Prepared` keeps of its word.
 
-use Rattle.std.specs.Prelude.{◌≡◌, ℕ, ◌+◌, List, length}
-use Rattle.std.specs.Global.{Vec}
+use Rattle.std.specs.Prelude.{◌≡◌, ℕ, ◌+◌, ◌^◌, ◌≤◌, List, length, Option, Some, None, ℤ, unsigned_abs}
+use Rattle.std.specs.List.{All}
+use Rattle.rat_core.specs.Fraction.{ℚ}
+use Rattle.rat_core.specs.Written.{Written, value}
 use Rattle.edge_words.specs.Stable.{IsStable}
 use Rattle.edge_words.specs.Word.{IsWord}
 use Rattle.exp_sums.specs.FormalPoint.{FormalPoint}
+use Rattle.exp_sums.specs.Limits.{IsNear}
 use Rattle.unfolding.specs.Shift.{IsShift}
-use Rattle.defining_functions.specs.Functions.{defining_function, IsWithinFunctionLimits}
+use Rattle.defining_functions.specs.Heights.{upper_height, lower_height}
 use Rattle.defining_functions.specs.Tables.{IsTable}
+use Rattle.gradient_bounds.specs.declared.most.Most.{Most}
+use Rattle.gradient_bounds.specs.declared.sine_low.SineLow.{SineLow}
+use Rattle.gradient_bounds.specs.Decision.{IsMost}
+use Rattle.gradient_bounds.specs.Table.{IsTableOf, IsLowAt, number_in}
 
--- the function of the k-th upper and the l-th lower corner
-pub record IsFunctionOf (w : List ℕ) (k l : ℕ) (f : FormalPoint) : Type 0 where
-  pub is : (v : FormalPoint) → IsShift w v → f ≡ defining_function v w k l
-  pub limits : IsWithinFunctionLimits f
+-- the table was filled at the point, if at any
+abbrev pub IsFilledAt : ℕ → Option (Written × Written) → List SineLow → Type 0
+IsFilledAt bits None table = Unit {0}
+IsFilledAt bits (Some p) table = All (IsLowAt bits (value p.0) (value p.1)) table
 
--- the functions of the k-th upper corner, by the lower corners
-abbrev pub IsRow : List ℕ → ℕ → List FormalPoint → Type 0
-IsRow w k row = IsTable (λ j f. IsFunctionOf w k (j + 1) f) (length w) row
+-- directions and numbers are so small that sums over a height's terms fit
+pub record IsSmallEntry (e : SineLow) : Type 0 where
+  pub near : IsNear 130 e.dir
+  pub low : unsigned_abs e.low ≤ 2 ^ 62
 
--- all functions, by the upper corners
-abbrev pub AreRows : List ℕ → List (Vec FormalPoint) → Type 0
-AreRows w rows = IsTable (λ i row. IsRow w (i + 1) row.items) (length w) rows
+-- the numbers of the upper heights, from the first edge to the last
+pub record AreUppers (w : List ℕ) (table : List SineLow) (numbers : List ℤ) : Type 0 where
+  pub small : All (λ z. unsigned_abs z ≤ 2 ^ 76) numbers
+  pub each : IsTable (λ i z. (v : FormalPoint) → IsShift w v → z ≡ number_in table (upper_height v w (i + 1))) (length w) numbers
+
+-- and those of the lower ones
+pub record AreLowers (w : List ℕ) (table : List SineLow) (numbers : List ℤ) : Type 0 where
+  pub small : All (λ z. unsigned_abs z ≤ 2 ^ 76) numbers
+  pub each : IsTable (λ i z. (v : FormalPoint) → IsShift w v → z ≡ number_in table (lower_height v w (i + 1))) (length w) numbers
 
 -- what a `Prepared` keeps of its word
-pub record IsPrepared (w : List ℕ) (kept : List (Vec FormalPoint)) : Type 0 where
+pub record IsPrepared (bits : ℕ) (w u : List ℕ) (most : Most) (point : Option (Written × Written)) (table : List SineLow) (uppers lowers : List ℤ) :
+    Type 0 where
   pub word : IsWord w
   pub stable : IsStable w
-  pub rows : AreRows w kept
+  pub same_word : u ≡ w
+  pub most : IsMost w most
+  pub directions : IsTableOf w table
+  pub small : All IsSmallEntry table
+  pub filled : IsFilledAt bits point table
+  pub uppers : AreUppers w table uppers
+  pub lowers : AreLowers w table lowers

@@ -6,3 +6,5 @@ pub mod Neighbourhood
 pub mod Kept
 pub mod Faults
 pub mod Laws
+pub mod Decision
+pub mod Table
