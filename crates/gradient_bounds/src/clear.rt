@@ -19,7 +19,7 @@ fn is_clear<S: Scale>(function: &ExpSum, neighbourhood: &Neighbourhood) -> bool
     ensures found { IsClearIn (ball_of neighbourhood.now) (slack S.HIGH_BITS) function.now → IsTrue result }
 {
     let value = sum_of_sines::<S>(function.terms(), &neighbourhood.centre);
-    value.lo() >= threshold::<S>(function, neighbourhood)
+    value.lo() >= threshold::<S>(function.weight(), function.reach(), neighbourhood)
 }
 
 /// Whether that is so for each function.
@@ -45,7 +45,7 @@ fn is_shut<S: Scale>(function: &ExpSum, neighbourhood: &Neighbourhood) -> bool
     ensures found { IsShutIn (ball_of neighbourhood.now) (slack S.HIGH_BITS) function.now → IsTrue result }
 {
     let value = sum_of_sines::<S>(function.terms(), &neighbourhood.centre);
-    value.hi() <= -threshold::<S>(function, neighbourhood)
+    value.hi() <= -threshold::<S>(function.weight(), function.reach(), neighbourhood)
 }
 
 /// Whether that is so for one of the functions.

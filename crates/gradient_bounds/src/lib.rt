@@ -7,9 +7,12 @@
 
 mod angles;
 mod clear;
+mod decision;
+mod extremes;
 mod fault;
 mod functions;
 pub mod laws;
+mod most;
 mod neighbourhood;
 mod prepared;
 mod sines;
