@@ -9,6 +9,7 @@ mod angles;
 mod bounds;
 mod decision;
 mod directions;
+mod extremes;
 mod fault;
 mod filled;
 pub mod laws;

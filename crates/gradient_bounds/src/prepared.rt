@@ -278,7 +278,6 @@ impl<S: Scale> Prepared<S> {
             &self.functions,
             &self.uppers,
             &self.lowers,
-            &self.most,
             &square(place),
         )
     }
