@@ -3,7 +3,8 @@ pub mod Drifts
 pub mod Passing
 pub mod Turning
 pub mod Enclosing
-pub mod Rows
 pub mod Refusals
 pub mod Boxes
 pub mod Within
+pub mod Sums
+pub mod EachFunction

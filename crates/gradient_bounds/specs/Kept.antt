@@ -37,14 +37,13 @@ pub record AreLowers (w : List ℕ) (table : List SineLow) (numbers : List ℤ) 
   pub each : IsTable (λ i z. (v : FormalPoint) → IsShift w v → z ≡ number_in table (lower_height v w (i + 1))) (length w) numbers
 
 -- what a `Prepared` keeps of its word
-pub record IsPrepared (bits : ℕ) (w u : List ℕ) (most : Most) (point : Option (Written × Written)) (table : List SineLow) (uppers lowers : List ℤ) :
-    Type 0 where
+pub record IsPrepared (bits : ℕ) (w u : List ℕ) (m : Most) (p : Option (Written × Written)) (table : List SineLow) (us ls : List ℤ) : Type 0 where
   pub word : IsWord w
   pub stable : IsStable w
   pub same_word : u ≡ w
-  pub most : IsMost w most
+  pub most : IsMost w m
   pub directions : IsTableOf w table
   pub small : All IsSmallEntry table
-  pub filled : IsFilledAt bits point table
-  pub uppers : AreUppers w table uppers
-  pub lowers : AreLowers w table lowers
+  pub filled : IsFilledAt bits p table
+  pub uppers : AreUppers w table us
+  pub lowers : AreLowers w table ls

@@ -2,10 +2,10 @@
 -- Its directions are those of the terms of the word's heights, so that each function's number is the exact difference of two heights' numbers, and the
 -- error of a function's value is counted by the function's own weight, however large the two heights are.
 
-use Rattle.std.specs.Prelude.{◌≡◌, ℕ, ◌+◌, ◌*◌, ◌^◌, ◌<◌, ◌⊎◌, List, [], ◌∷◌, length, slice_index_or, if◌then◌else◌, Option}
+use Rattle.std.specs.Prelude.{◌≡◌, ℕ, ◌+◌, ◌*◌, ◌^◌, ◌⊎◌, List, [], ◌∷◌, if◌then◌else◌, Option}
 use Rattle.std.specs.Prelude.{ℤ, pos, ◌+ℤ◌, ◌-ℤ◌, ◌*ℤ◌, neg_ℤ, ◌≤ℤ◌}
 use Rattle.std.specs.declared.cmp.Ordering.TheVariants.{Less}
-use Rattle.std.specs.List.{All, Any}
+use Rattle.std.specs.List.{All, Any, AllPairs}
 use Rattle.rat_core.specs.Written.{Written}
 use Rattle.edge_words.specs.Letters.{IsPlace}
 use Rattle.exp_sums.specs.declared.direction.Dir.{Dir}
@@ -47,7 +47,7 @@ pub record IsDirOfHeight (w : List ℕ) (d : Dir) : Type 0 where
 
 -- the directions rise by m and then n, so each stands once, and they are those of the heights' terms
 pub record IsTableOf (w : List ℕ) (table : List SineLow) : Type 0 where
-  pub rising : (i j : ℕ) (e : SineLow) → i < j → j < length table → dir_cmp (slice_index_or table i e).dir (slice_index_or table j e).dir ≡ Less
+  pub rising : AllPairs (λ e e'. dir_cmp e.dir e'.dir ≡ Less) table
   pub only : All (λ e. IsDirOfHeight w e.dir) table
   pub all : (d : Dir) → IsDirOfHeight w d → Any (λ e. e.dir ≡ d) table
 
