@@ -8,3 +8,5 @@ pub mod Boxes
 pub mod Within
 pub mod Sums
 pub mod EachFunction
+pub mod Marks
+pub mod Numbering

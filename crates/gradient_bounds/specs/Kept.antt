@@ -1,12 +1,16 @@
 -- What a `Prepared` keeps of its word.
 
-use Rattle.std.specs.Prelude.{◌≡◌, ℕ, ◌+◌, ◌^◌, ◌≤◌, List, length, Option, Some, None, ℤ, unsigned_abs}
+use Rattle.std.specs.Prelude.{◌≡◌, ℕ, zero, suc, ◌+◌, ◌^◌, ◌≤◌, List, [], ◌∷◌, ◌++◌, length, Option, Some, None, ℤ, pos, unsigned_abs}
+use Rattle.std.specs.Prelude.{Bool, false, ◌||◌, if◌then◌else◌}
 use Rattle.std.specs.List.{All}
 use Rattle.rat_core.specs.Fraction.{ℚ}
 use Rattle.rat_core.specs.Written.{Written, value}
 use Rattle.edge_words.specs.Stable.{IsStable}
 use Rattle.edge_words.specs.Word.{IsWord}
-use Rattle.exp_sums.specs.FormalPoint.{FormalPoint}
+use Rattle.exp_sums.specs.declared.direction.Dir.{Dir}
+use Rattle.exp_sums.specs.declared.terms.Term.{Term}
+use Rattle.exp_sums.specs.Terms.{is_same_dir}
+use Rattle.exp_sums.specs.FormalPoint.{FormalPoint, terms, coefficient}
 use Rattle.exp_sums.specs.Limits.{IsNear}
 use Rattle.unfolding.specs.Shift.{IsShift}
 use Rattle.defining_functions.specs.Heights.{upper_height, lower_height}
@@ -26,15 +30,31 @@ pub record IsSmallEntry (e : SineLow) : Type 0 where
   pub near : IsNear 130 e.dir
   pub low : unsigned_abs e.low ≤ 2 ^ 62
 
--- the numbers of the upper heights, from the first edge to the last
-pub record AreUppers (w : List ℕ) (table : List SineLow) (numbers : List ℤ) : Type 0 where
-  pub small : All (λ z. unsigned_abs z ≤ 2 ^ 76) numbers
-  pub each : IsTable (λ i z. (v : FormalPoint) → IsShift w v → z ≡ number_in table (upper_height v w (i + 1))) (length w) numbers
+-- whether a term of the list has the direction
+abbrev pub has_dir : List Term → Dir → Bool
+has_dir [] d = false
+has_dir (t ∷ ts) d = is_same_dir t.dir d || has_dir ts d
 
--- and those of the lower ones
-pub record AreLowers (w : List ℕ) (table : List SineLow) (numbers : List ℤ) : Type 0 where
-  pub small : All (λ z. unsigned_abs z ≤ 2 ^ 76) numbers
-  pub each : IsTable (λ i z. (v : FormalPoint) → IsShift w v → z ≡ number_in table (lower_height v w (i + 1))) (length w) numbers
+-- the point has the coefficient 1 at each direction of the terms, and 0 elsewhere
+abbrev pub IsMarkOf : List Term → FormalPoint → Type 0
+IsMarkOf ts p = (d : Dir) → coefficient p d ≡ (if has_dir ts d then pos 1 else pos 0)
+
+-- the terms of the heights of the first edges
+abbrev pub height_terms : FormalPoint → List ℕ → ℕ → List Term
+height_terms v w zero = []
+height_terms v w (suc i) = height_terms v w i ++ (terms (upper_height v w (suc i)) ++ terms (lower_height v w (suc i)))
+
+-- the number of a height, which depends on the shift
+pub record IsNumberOf (w : List ℕ) (table : List SineLow) (height : FormalPoint → FormalPoint) (z : ℤ) : Type 0 where
+  pub small : unsigned_abs z ≤ 2 ^ 76
+  pub is : (v : FormalPoint) → IsShift w v → z ≡ number_in table (height v)
+
+-- the numbers of the upper heights, from the first edge to the last, and those of the lower ones
+abbrev pub AreUppers : List ℕ → List SineLow → List ℤ → Type 0
+AreUppers w table numbers = IsTable (λ i z. IsNumberOf w table (λ v. upper_height v w (i + 1)) z) (length w) numbers
+
+abbrev pub AreLowers : List ℕ → List SineLow → List ℤ → Type 0
+AreLowers w table numbers = IsTable (λ i z. IsNumberOf w table (λ v. lower_height v w (i + 1)) z) (length w) numbers
 
 -- what a `Prepared` keeps of its word
 pub record IsPrepared (bits : ℕ) (w u : List ℕ) (m : Most) (p : Option (Written × Written)) (table : List SineLow) (us ls : List ℤ) : Type 0 where
