@@ -1,5 +1,6 @@
 pub mod Margins
 pub mod Drifts
+pub mod Largest
 pub mod Passing
 pub mod Turning
 pub mod Enclosing
