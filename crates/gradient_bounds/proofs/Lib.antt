@@ -1,7 +1,9 @@
 pub mod Margins
+pub mod Computed
 pub mod Drifts
 pub mod Largest
 pub mod Passing
+pub mod Numbers
 pub mod Turning
 pub mod Enclosing
 pub mod Rows
