@@ -4,6 +4,7 @@ pub mod Drifts
 pub mod Largest
 pub mod Passing
 pub mod Numbers
+pub mod Deciding
 pub mod Turning
 pub mod Enclosing
 pub mod Rows
