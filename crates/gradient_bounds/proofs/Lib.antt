@@ -1,6 +1,10 @@
 pub mod Margins
+pub mod Computed
 pub mod Drifts
+pub mod Largest
 pub mod Passing
+pub mod Numbers
+pub mod Deciding
 pub mod Turning
 pub mod Enclosing
 pub mod Refusals

@@ -44,6 +44,7 @@ pub fn threshold<S: Scale>(weight: i64, reach: i64, neighbourhood: &Neighbourhoo
     requires reach_at_most { reach ≤ℤ pos 4259840 }
     requires neighbourhood { IsNeighbourhood neighbourhood.now }
     ensures is { result ≡ threshold_units S.BITS S.LOW_BITS S.PI_HI neighbourhood.now (unsigned_abs weight) (unsigned_abs reach) }
+    ensures at_least { pos 1 ≤ℤ result }
     ensures size { unsigned_abs result ≤ 2 ^ 100 }
 {
     drift::<S>(reach, neighbourhood) + margin::<S>(weight)
