@@ -6,7 +6,6 @@ pub mod Passing
 pub mod Numbers
 pub mod Deciding
 pub mod Turning
-pub mod Enclosing
 pub mod Refusals
 pub mod Boxes
 pub mod Within
@@ -14,3 +13,4 @@ pub mod Sums
 pub mod EachFunction
 pub mod Marks
 pub mod Numbering
+pub mod Tested

@@ -72,23 +72,6 @@ pub record IsMeasured (bits low high : ℕ) (b : Ball) (f : FormalPoint) (t : �
   pub encloses : FromSomeOn (λ n. Encloses bits r (value_at n f b.x b.y))
   pub narrow : r.hi ≤ℤ (r.lo +ℤ pos (512 * weight f))
 
--- the interval is that of the terms
-pub measured : (bits low high : ℕ) (b : Ball) (f : FormalPoint) (t : ℤ) (r : Ends) (ts : List Term) → ts ≡ terms f
-    → FromSomeOn (λ n. threshold_of n b.radius (slack low) f *ℚ whole (2 ^ bits) ≤ℚ t ÷ 1)
-    → FromSomeOn (λ n. (t +ℤ pos (512 * weight f)) ÷ 1 ≤ℚ threshold_of n b.radius (slack high) f *ℚ whole (2 ^ bits))
-    → FromSomeOn (λ n. Encloses bits r (value_of_terms n ts b.x b.y)) → r.hi ≤ℤ (r.lo +ℤ pos (256 * terms_weight ts)) → IsMeasured bits low high b f t r
-measured bits low high b f t r ts ts_is enough little encloses narrow =
-    record {
-      enough = enough;
-      little = little;
-      encloses = subst (λ us. FromSomeOn (λ n. Encloses bits r (value_of_terms n us b.x b.y))) ts_is encloses;
-      narrow = wider r.lo r.hi (weight f) (subst (λ us. r.hi ≤ℤ (r.lo +ℤ pos (256 * terms_weight us))) ts_is narrow);
-    }
-
-  where
-    wider : (lo hi : ℤ) (w : ℕ) → hi ≤ℤ (lo +ℤ pos (256 * w)) → hi ≤ℤ (lo +ℤ pos (512 * w))
-    wider lo hi w h = omega (arith, ints)
-
 module _ (bits low high : ℕ) (b : Ball) (f : FormalPoint) (t : ℤ) (r : Ends) (h : IsMeasured bits low high b f t r) where
   -- a function whose lower end reaches the threshold is clear with the narrower slack ..
   pub reached_clear : t ≤ℤ r.lo → IsClearIn b (slack low) f

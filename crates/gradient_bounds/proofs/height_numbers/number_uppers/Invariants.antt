@@ -1,7 +1,7 @@
 use Rattle.std.proofs.Common.{◌≡◌, ℕ, ℤ, ◌+◌, ◌<◌, length, get_or}
 use Rattle.defining_functions.specs.Heights.{upper_height}
 use Rattle.gradient_bounds.specs.Kept.{IsNumberOf}
-use Rattle.gradient_bounds.proofs.numbers.number_uppers.Given as goal
+use Rattle.gradient_bounds.proofs.height_numbers.number_uppers.Given as goal
 
 -- the numbers so far
 abbrev pub invariant-loop-i : goal.invariant-loop-i

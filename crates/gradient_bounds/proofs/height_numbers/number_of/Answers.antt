@@ -5,7 +5,7 @@ use Rattle.std.proofs.lemmas.List.{take_all}
 use Rattle.exp_sums.specs.declared.terms.Term.{Term}
 use Rattle.gradient_bounds.specs.Table.{low_in}
 use Rattle.gradient_bounds.proofs.Sums.{IsStep, step_at, number_size}
-use Rattle.gradient_bounds.proofs.numbers.number_of.Goals as goal
+use Rattle.gradient_bounds.proofs.height_numbers.number_of.Goals as goal
 
 blank : Term
 blank = record { dir = record { m = pos 0; n = pos 0 }; c = pos 0 }

@@ -3,7 +3,7 @@ use Rattle.std.specs.Int.{w128}
 use Rattle.std.proofs.lemmas.Int.{to_z-of_z}
 use Rattle.defining_functions.specs.Heights.{lower_height}
 use Rattle.gradient_bounds.proofs.Numbering.{number_of_height, next_number}
-use Rattle.gradient_bounds.proofs.numbers.number_lowers.Goals as goal
+use Rattle.gradient_bounds.proofs.height_numbers.number_lowers.Goals as goal
 
 pub loop-i-preserved : goal.loop-i-preserved
 loop-i-preserved c =
