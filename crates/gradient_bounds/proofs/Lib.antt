@@ -14,3 +14,4 @@ pub mod EachFunction
 pub mod Marks
 pub mod Numbering
 pub mod Tested
+pub mod Tests

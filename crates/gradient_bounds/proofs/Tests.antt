@@ -1,0 +1,196 @@
+-- What a `Prepared` keeps, and what its tests and bounds answer.
+use Rattle.std.proofs.Common.{◌≡◌, refl, sym, ap, ap₂, ◌∙◌, subst, subst₂, ℕ, zero, suc, ◌+◌, ◌-◌, ◌*◌, ◌^◌, ◌<◌, ◌≤◌, List, [], ◌∷◌, map, length, get_or, ℤ, pos, ◌+ℤ◌, ◌-ℤ◌, ◌*ℤ◌}
+use Rattle.std.proofs.Common.{◌≤ℤ◌, unsigned_abs, FitsSigned, to_z, of_z, lit<, arith, Some, None, Option}
+use Rattle.std.specs.Prelude.{◌↔◌, IfSome}
+use Rattle.std.specs.Int.{w64, w128}
+use Rattle.std.specs.List.{All, Any}
+use Rattle.std.specs.declared.cmp.Ordering.TheVariants.{Less}
+use Rattle.std.proofs.Math.Pow.{pow_mono}
+use Rattle.std.proofs.lemmas.Nat.{pow_pos}
+use Rattle.std.proofs.lemmas.Grind.{pow_more}
+use Rattle.std.proofs.lemmas.Int.{ints, to_z-of_z, fits_signed_from_abs}
+use Rattle.std.proofs.lemmas.List.{length-map}
+use Rattle.ring_solver.proofs.Whole.{pos_le}
+use Rattle.rat_core.specs.Fraction.{ℚ, ◌÷◌, whole, ◌≤ℚ◌}
+use Rattle.rat_core.specs.Written.{Written, value}
+use Rattle.rat_core.proofs.Laws.{over_le}
+use Rattle.rat_core.proofs.Order.{over_nonneg}
+use Rattle.edge_words.specs.Letters.{IsPlace}
+use Rattle.exp_sums.specs.declared.direction.Dir.{Dir}
+use Rattle.exp_sums.specs.Terms.{dir_cmp}
+use Rattle.exp_sums.specs.FormalPoint.{FormalPoint}
+use Rattle.exp_sums.specs.Limits.{weight}
+use Rattle.trig_meaning.specs.FromSomeOn.{FromSomeOn}
+use Rattle.trig_meaning.specs.Value.{value_at}
+use Rattle.unfolding.specs.Shift.{IsShift, HasShift}
+use Rattle.rational_polygon.specs.Square.{Square, IsBox}
+use Rattle.directed_fixed.specs.Ends.{Ends, Encloses}
+use Rattle.defining_functions.specs.Functions.{defining_function}
+use Rattle.defining_functions.specs.Heights.{upper_height, lower_height}
+use Rattle.gradient_bounds.specs.declared.most.Most.{Most}
+use Rattle.gradient_bounds.specs.declared.neighbourhood.Neighbourhood.{Neighbourhood}
+use Rattle.gradient_bounds.specs.declared.sine_low.SineLow.{SineLow}
+use Rattle.gradient_bounds.specs.Clear.{slack}
+use Rattle.gradient_bounds.specs.Corridor.{EachFunction, SomeFunction}
+use Rattle.gradient_bounds.specs.Decision.{AreNumbers, needed, EachReaches, SomeFallsBelow, difference}
+use Rattle.gradient_bounds.specs.Kept.{IsFilledAt, IsSmallEntry, IsNumberOf, AreUppers, AreLowers, IsPrepared}
+use Rattle.gradient_bounds.specs.Neighbourhood.{IsNeighbourhood, ball_of, IsClearIn, IsShutIn}
+use Rattle.gradient_bounds.specs.Table.{PreparedWord, IsDirOfHeight, IsTableOf, IsLowAt, number_in, bounds_in, centre_of, LowerEndReaches, UpperEndFalls}
+use Rattle.gradient_bounds.proofs.EachFunction.{has_shift}
+use Rattle.gradient_bounds.proofs.Numbering.{are_numbers, number_at, difference_is}
+use Rattle.gradient_bounds.proofs.Numbers.{IsScale}
+use Rattle.gradient_bounds.proofs.Sums.{any_at, IsListed, upper_listed, lower_listed, function_listed, bounds_hold}
+use Rattle.gradient_bounds.proofs.Tested.{IsTested, IsDriftIn, each_decided, each_clear, clear_each, some_decided, some_shut, shut_some}
+
+-- ---- a table that is filled again
+
+get_or-dir : (es : List SineLow) (i : ℕ) (e : SineLow) → get_or (map (λ (e : SineLow). e.dir) es) i e.dir ≡ (get_or es i e).dir
+get_or-dir [] i e = refl
+get_or-dir (x ∷ es) zero e = refl
+get_or-dir (x ∷ es) (suc i) e = get_or-dir es i e
+
+-- tables with the same directions
+module _ (w : List ℕ) (old new : List SineLow) (same : map (λ (e : SineLow). e.dir) new ≡ map (λ (e : SineLow). e.dir) old) where
+  same_at : (i : ℕ) (e : SineLow) → (get_or new i e).dir ≡ (get_or old i e).dir
+  same_at i e = sym (get_or-dir new i e) ∙ ap (λ ds. get_or ds i e.dir) same ∙ get_or-dir old i e
+
+  same_length : length new ≡ length old
+  same_length = sym (length-map new (λ (e : SineLow). e.dir)) ∙ ap length same ∙ length-map old (λ (e : SineLow). e.dir)
+
+  pub same_table : IsTableOf w old → IsTableOf w new
+  same_table h = record {
+    rising = λ i j e lt below. subst₂ (λ a b. dir_cmp a b ≡ Less) (sym (same_at i e)) (sym (same_at j e)) (h.rising i j e lt (omega (arith, below, same_length)));
+    only = λ i e below. subst (IsDirOfHeight w) (sym (same_at i e)) (h.only i e (omega (arith, below, same_length)));
+    all = λ d is.
+        let any = h.all d is in
+        let below = any.2 in
+        any_at (λ (e : SineLow). e.dir ≡ d) new any.0 any.1 (omega (arith, below, same_length)) (same_at any.0 any.1 ∙ ap (λ (e : SineLow). e.dir) any.3 ∙ any.4);
+  }
+
+pub filled_again : (bits : ℕ) (w u : List ℕ) (m : Most) (p : Option (Written × Written)) (table new table' : List SineLow) (us ls us' ls' us'' ls'' : List ℤ) (x y : Written)
+    → IsPrepared bits w u m p table us ls → map (λ (e : SineLow). e.dir) new ≡ map (λ (e : SineLow). e.dir) table → All (IsLowAt bits (value x) (value y)) new
+    → All IsSmallEntry new → AreUppers u new us' → AreLowers u new ls' → table' ≡ new → us'' ≡ us' → ls'' ≡ ls' → IsPrepared bits w u m (Some (x, y)) table' us'' ls''
+filled_again bits w u m p table new table' us ls us' ls' us'' ls'' x y h same lows small uppers lowers table_is us_is ls_is =
+    subst (λ es. IsPrepared bits w u m (Some (x, y)) es us'' ls'') (sym table_is)
+    (subst₂ (λ a b. IsPrepared bits w u m (Some (x, y)) new a b) (sym us_is) (sym ls_is) (record {
+      word = h.word;
+      stable = h.stable;
+      same_word = h.same_word;
+      most = h.most;
+      directions = same_table w table new same h.directions;
+      small = small;
+      filled = lows;
+      uppers = subst (λ v. AreUppers v new us') h.same_word uppers;
+      lowers = subst (λ v. AreLowers v new ls') h.same_word lowers;
+    }))
+
+-- ---- the table as it was filled
+
+pub filled_lows : (bits : ℕ) (p : Option (Written × Written)) (table : List SineLow) → IsFilledAt bits p table → IfSome p (λ q. All (IsLowAt bits (value q.0) (value q.1)) table)
+filled_lows bits None table h = h
+filled_lows bits (Some q) table h = h
+
+-- a form whose directions are listed has its value within its bounds
+pub form_holds : (bits : ℕ) (p : Option (Written × Written)) (table : List SineLow) (P : FormalPoint → Type 0) (form : FormalPoint → FormalPoint) (r : Ends)
+    → IsFilledAt bits p table → ((v : FormalPoint) → P v → IsListed table (form v)) → ((v : FormalPoint) → P v → r ≡ bounds_in table (form v))
+    → IfSome p (λ q. (v : FormalPoint) → P v → FromSomeOn (λ n. Encloses bits r (value_at n (form v) (value q.0) (value q.1))))
+form_holds bits None table P form r h listed is = h
+form_holds bits (Some q) table P form r h listed is = λ v here.
+    subst (λ e. FromSomeOn (λ n. Encloses bits e (value_at n (form v) (value q.0) (value q.1)))) (sym (is v here)) (bounds_hold bits (value q.0) (value q.1) table (form v) h (listed v here))
+
+-- ---- bounds
+
+-- the ends around a number that is a form's, at the form's weight
+pub ends_are : (table : List SineLow) (f : FormalPoint) (r : Ends) (z : ℤ) (a : ℕ) → r ≡ record { lo = z -ℤ pos (256 * a); hi = z +ℤ pos (256 * a) } → z ≡ number_in table f
+    → a ≡ weight f → r ≡ bounds_in table f
+ends_are table f r z a r_is z_is a_is = r_is ∙ ap₂ (λ (z : ℤ) (a : ℕ). record { lo = z -ℤ pos (256 * a); hi = z +ℤ pos (256 * a) }) z_is a_is
+
+-- ---- tests
+
+module _ (bits low high : ℕ) (L H : ℤ) (scale : IsScale bits low high L H) (w u : List ℕ) (m : Most) (p : Option (Written × Written)) (table : List SineLow)
+    (us ls us' ls' : List ℤ) (h : IsPrepared bits w u m p table us ls) (us_is : us' ≡ us) (ls_is : ls' ≡ ls) where
+  tested : IsTested w table us ls
+  tested = record { word = h.word; stable = h.stable; directions = h.directions; uppers = h.uppers; lowers = h.lowers }
+
+  pub numbers_up : AreNumbers u us'
+  numbers_up = subst₂ AreNumbers (sym h.same_word) (sym us_is) (are_numbers w table (λ i v. upper_height v w (i + 1)) us h.uppers)
+
+  pub numbers_low : AreNumbers u ls'
+  numbers_low = subst₂ AreNumbers (sym h.same_word) (sym ls_is) (are_numbers w table (λ i v. lower_height v w (i + 1)) ls h.lowers)
+
+  -- the same lists under their names
+  each_kept : (needs : FormalPoint → ℤ) → EachReaches needs u us' ls' ↔ EachReaches needs w us ls
+  each_kept needs = (
+    λ e. subst (λ v. EachReaches needs v us ls) h.same_word (subst₂ (λ a b. EachReaches needs u a b) us_is ls_is e),
+    λ e. subst (λ v. EachReaches needs v us' ls') (sym h.same_word) (subst₂ (λ a b. EachReaches needs w a b) (sym us_is) (sym ls_is) e),
+  )
+
+  some_kept : (needs : FormalPoint → ℤ) → SomeFallsBelow needs u us' ls' ↔ SomeFallsBelow needs w us ls
+  some_kept needs = (
+    λ e. subst (λ v. SomeFallsBelow needs v us ls) h.same_word (subst₂ (λ a b. SomeFallsBelow needs u a b) us_is ls_is e),
+    λ e. subst (λ v. SomeFallsBelow needs v us' ls') (sym h.same_word) (subst₂ (λ a b. SomeFallsBelow needs w a b) (sym us_is) (sym ls_is) e),
+  )
+
+  module _ (now : PreparedWord) (view : ◌≡◌ {A = PreparedWord} (record { word = w; point = p; table = table }) now) (x y : Written) (at : now.point ≡ Some (x, y))
+      (r : Neighbourhood) (near : IsNeighbourhood r) (x_is : (ball_of r).x ≡ value x) (y_is : (ball_of r).y ≡ value y) (drift : FormalPoint → ℤ) (drift_is : IsDriftIn H r drift) where
+    filled : All (IsLowAt bits (ball_of r).x (ball_of r).y) table
+    filled = subst₂ (λ a b. All (IsLowAt bits a b) table) (sym x_is) (sym y_is) (subst (λ q. IsFilledAt bits q table) (ap (λ (n : PreparedWord). n.point) view ∙ at) h.filled)
+
+    abbrev needs : FormalPoint → ℤ
+    needs = needed bits low H r
+
+    pub decided_each : EachReaches needs u us' ls' ↔ EachFunction now.word (LowerEndReaches bits low drift now.table)
+    decided_each =
+        let d = each_decided bits low high L H scale w table us ls tested r near filled drift drift_is in
+        subst (λ (n : PreparedWord). EachReaches needs u us' ls' ↔ EachFunction n.word (LowerEndReaches bits low drift n.table)) view
+        (λ e. d.0 ((each_kept needs).0 e), λ e. (each_kept needs).1 (d.1 e))
+
+    pub clear_of_each : EachReaches needs u us' ls' → EachFunction now.word (IsClearIn (ball_of r) (slack low))
+    clear_of_each e = subst (λ (n : PreparedWord). EachFunction n.word (IsClearIn (ball_of r) (slack low))) view
+        (each_clear bits low high L H scale w table us ls tested r near filled drift drift_is ((each_kept needs).0 e))
+
+    pub each_of_clear : EachFunction now.word (IsClearIn (ball_of r) (slack high)) → EachReaches needs u us' ls'
+    each_of_clear e = (each_kept needs).1 (clear_each bits low high L H scale w table us ls tested r near filled drift drift_is
+        (subst (λ (n : PreparedWord). EachFunction n.word (IsClearIn (ball_of r) (slack high))) (sym view) e))
+
+    pub decided_some : SomeFallsBelow needs u us' ls' ↔ SomeFunction now.word (UpperEndFalls bits low drift now.table)
+    decided_some =
+        let d = some_decided bits low high L H scale w table us ls tested r near filled drift drift_is in
+        subst (λ (n : PreparedWord). SomeFallsBelow needs u us' ls' ↔ SomeFunction n.word (UpperEndFalls bits low drift n.table)) view
+        (λ e. d.0 ((some_kept needs).0 e), λ e. (some_kept needs).1 (d.1 e))
+
+    pub shut_of_some_falls : SomeFallsBelow needs u us' ls' → SomeFunction now.word (IsShutIn (ball_of r) (slack low))
+    shut_of_some_falls e = subst (λ (n : PreparedWord). SomeFunction n.word (IsShutIn (ball_of r) (slack low))) view
+        (some_shut bits low high L H scale w table us ls tested r near filled drift drift_is ((some_kept needs).0 e))
+
+    pub some_falls_of_shut : SomeFunction now.word (IsShutIn (ball_of r) (slack high)) → SomeFallsBelow needs u us' ls'
+    some_falls_of_shut e = (some_kept needs).1 (shut_some bits low high L H scale w table us ls tested r near filled drift drift_is
+        (subst (λ (n : PreparedWord). SomeFunction n.word (IsShutIn (ball_of r) (slack high))) (sym view) e))
+
+-- ---- centres of boxes
+
+-- a fraction from 0 to 1 over a denominator of at most 2^21
+pub record IsUnitFraction (x : Written) : Type 0 where
+  pub least : whole 0 ≤ℚ value x
+  pub most : value x ≤ℚ whole 1
+  pub small : x.den ≤ 2 ^ 21
+
+centre_fraction : (i level : ℕ) → level ≤ 20 → i < 2 ^ level → IsUnitFraction (record { num = pos (2 * i + 1); den = 2 ^ (level + 1) })
+centre_fraction i level deep below =
+    let double : 2 ^ (level + 1) ≡ 2 ^ level * 2 = pow_more 2 level in
+    let positive : 0 < 2 ^ (level + 1) = pow_pos (level + 1) in
+    let shallow : level + 1 ≤ 21 = omega arith in
+    record {
+      least = over_nonneg (2 * i + 1) (2 ^ (level + 1));
+      most = over_le (pos (2 * i + 1)) (pos 1) (2 ^ (level + 1)) 1 positive (lit< tt) (inside (2 * i + 1) (2 ^ (level + 1)) (omega (arith, double, below)));
+      small = pow_mono shallow;
+    }
+  where
+    inside : (a b : ℕ) → a ≤ b → (pos a *ℤ pos 1) ≤ℤ (pos 1 *ℤ pos b)
+    inside a b h = omega (arith, ints, h)
+
+pub centre_in_unit : (box : Square) (x y : Written) → IsBox box → x ≡ (centre_of box).0 → y ≡ (centre_of box).1 → (IsUnitFraction x) × (IsUnitFraction y)
+centre_in_unit box x y h x_is y_is = (
+  subst IsUnitFraction (sym x_is) (centre_fraction box.i box.level h.depth h.column),
+  subst IsUnitFraction (sym y_is) (centre_fraction box.j box.level h.depth h.row),
+)
