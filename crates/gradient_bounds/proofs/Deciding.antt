@@ -1,5 +1,5 @@
 -- How the extremes and the pairs decide.
-use Rattle.std.proofs.Common.{◌≡◌, ◌↔◌, refl, sym, ap, ap₂, ◌∙◌, subst, subst₂, ℕ, ◌+◌, ◌-◌, ◌*◌, ◌^◌, ◌<◌, ◌≤◌, List, ℤ, pos, negsuc, ◌+ℤ◌, ◌-ℤ◌, ◌*ℤ◌, neg_ℤ, ◌≤ℤ◌}
+use Rattle.std.proofs.Common.{◌≡◌, ◌↔◌, refl, sym, ap₂, ◌∙◌, subst, subst₂, ℕ, ◌+◌, ◌-◌, ◌*◌, ◌^◌, ◌≤◌, List, ℤ, pos, negsuc, ◌+ℤ◌, ◌-ℤ◌, ◌*ℤ◌, neg_ℤ, ◌≤ℤ◌}
 use Rattle.std.proofs.Common.{unsigned_abs, slice_index_or, FitsSigned, T, Bool, true, false, not, arith, mul-le-mul, mul-le-mul_left, mul-le-mul_right}
 use Rattle.std.specs.Prelude.{int_le as is_at_most, int_lt as is_less, IsTrue}
 use Rattle.std.specs.Int.{w128}
@@ -19,7 +19,7 @@ use Rattle.defining_functions.specs.Functions.{defining_function}
 use Rattle.gradient_bounds.specs.declared.most.Most.{Most}
 use Rattle.gradient_bounds.specs.declared.neighbourhood.Neighbourhood.{Neighbourhood}
 use Rattle.gradient_bounds.specs.Neighbourhood.{IsNeighbourhood}
-use Rattle.gradient_bounds.specs.Decision.{rounded_up, drift_units, margin_units, needed_units, needed, difference, Reaches, FallsBelow, EachReaches, SomeFallsBelow, IsInLimits, IsWithinMost, IsMost}
+use Rattle.gradient_bounds.specs.Decision.{rounded_up, drift_units, needed_units, needed, difference, Reaches, FallsBelow, EachReaches, SomeFallsBelow, IsInLimits, IsWithinMost, IsMost}
 use Rattle.gradient_bounds.proofs.Computed.{rounded_up_is_ceiling, drift_at_least, pi_at_least}
 
 -- ---- one pair

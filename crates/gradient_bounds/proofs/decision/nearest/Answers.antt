@@ -1,4 +1,4 @@
-use Rattle.std.proofs.Common.{ℕ, ◌+◌, ◌-◌, ◌<◌, pos, ◌-ℤ◌, ◌≤ℤ◌, slice_index_or, length, arith, subst}
+use Rattle.std.proofs.Common.{◌-◌, ◌<◌, length, arith}
 use Rattle.gradient_bounds.proofs.Deciding.{differences_in_order}
 use Rattle.gradient_bounds.proofs.decision.nearest.Goals as goal
 

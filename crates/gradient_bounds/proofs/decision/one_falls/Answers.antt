@@ -1,4 +1,4 @@
-use Rattle.std.proofs.Common.{refl, ℕ, ◌+◌, arith}
+use Rattle.std.proofs.Common.{◌+◌, arith}
 use Rattle.gradient_bounds.specs.Decision.{needed, SomeInRowFalls, SomeFallsBelow}
 use Rattle.gradient_bounds.proofs.Largest.{up_to}
 use Rattle.gradient_bounds.proofs.Deciding.{false_not, fails}

@@ -1,7 +1,6 @@
-use Rattle.std.proofs.Common.{refl, ℕ, ◌+◌, pos, subst, FitsSigned, arith}
+use Rattle.std.proofs.Common.{refl, ◌+◌, pos, subst, FitsSigned, arith}
 use Rattle.std.specs.Int.{w128}
 use Rattle.std.proofs.lemmas.Int.{to_z-of_z}
-use Rattle.edge_words.specs.Letters.{IsPlace}
 use Rattle.gradient_bounds.specs.Decision.{needed, difference, FallsBelow, SomeInRowFalls}
 use Rattle.gradient_bounds.proofs.Largest.{up_to}
 use Rattle.gradient_bounds.proofs.Deciding.{holds, false_not, not_less, no_fall}
