@@ -110,28 +110,25 @@ product_at_least (pos h) (pos q) r low low' = omega (arith, ints)
 product_at_least (pos h) (negsuc q) r low low' = absurd low'.le
 product_at_least (negsuc h) p r low low' = absurd low.le
 
-no_multiple : (d : ℕ) (n : ℤ) → pos 0 ≤ℤ n → (pos 0 *ℤ pos d) ≤ℤ n
-no_multiple d n h = omega (arith, ints)
-
--- a drift is from 0 to 2^90
-drift_between : (H : ℤ) (r : Neighbourhood) (reach : ℕ) → IsNeighbourhood r → pos 0 ≤ℤ H → unsigned_abs H ≤ 2 ^ 62 → reach ≤ 4259840
-    → (pos 0 ≤ℤ drift_units H r reach) × (unsigned_abs (drift_units H r reach) ≤ 2 ^ 90)
-drift_between H r reach near low small slow = at r.centre.den near.angles.positive
+-- a drift is at least 0
+pub drift_at_least : (H : ℤ) (r : Neighbourhood) (reach : ℕ) → pos 0 ≤ℤ H → IsNeighbourhood r → pos 0 ≤ℤ drift_units H r reach
+drift_at_least H r reach low near = at r.centre.den near.angles.positive
   where
-    n : ℤ
-    n = H *ℤ (pos reach *ℤ r.radius)
+    no_multiple : (d : ℕ) (n : ℤ) → pos 0 ≤ℤ n → (pos 0 *ℤ pos d) ≤ℤ n
+    no_multiple d n h = omega (arith, ints)
 
-    at : (den : ℤ) → pos 1 ≤ℤ den → (pos 0 ≤ℤ rounded_up n den) × (unsigned_abs (rounded_up n den) ≤ 2 ^ 90)
-    at (pos d) positive =
-        let p : 0 < d = omega (arith, ints) in
-        let ceiling = rounded_up_ceiling n d p in
-        let none : (pos 0 *ℤ pos d) ≤ℤ n = no_multiple d n (product_at_least H r.radius reach low near.at_least) in
-        (
-          rounded_at_least true (pos 0) (rounded_up n (pos d)) n d p ceiling none,
-          rounded_not_larger true (rounded_up n (pos d)) n (pos d) (2 ^ 90) positive ceiling
-              (dividend_of H (pos reach) r.radius small (omega (arith, ints)) (omega (arith, ints)) near.at_least near.at_most).size,
-        )
+    at : (den : ℤ) → pos 1 ≤ℤ den → pos 0 ≤ℤ rounded_up (H *ℤ (pos reach *ℤ r.radius)) den
+    at (pos d) positive = rounded_at_least true (pos 0) (rounded_up (H *ℤ (pos reach *ℤ r.radius)) (pos d)) (H *ℤ (pos reach *ℤ r.radius)) d (omega (arith, ints))
+        (rounded_up_is_ceiling (H *ℤ (pos reach *ℤ r.radius)) (pos d) positive)
+        (no_multiple d (H *ℤ (pos reach *ℤ r.radius)) (product_at_least H r.radius reach low near.at_least))
     at (negsuc d) positive = absurd positive.le
+
+-- a drift is at most 2^90
+drift_size : (H : ℤ) (r : Neighbourhood) (reach : ℕ) → IsNeighbourhood r → unsigned_abs H ≤ 2 ^ 62 → reach ≤ 4259840 → unsigned_abs (drift_units H r reach) ≤ 2 ^ 90
+drift_size H r reach near small slow =
+    rounded_not_larger true (drift_units H r reach) (H *ℤ (pos reach *ℤ r.radius)) r.centre.den (2 ^ 90) near.angles.positive
+    (rounded_up_is_ceiling (H *ℤ (pos reach *ℤ r.radius)) r.centre.den near.angles.positive)
+    (dividend_of H (pos reach) r.radius small (omega (arith, ints)) (omega (arith, ints)) near.at_least near.at_most).size
 
 -- a margin is from 1 to 2^90
 margin_between : (bits low weight : ℕ) → bits ≤ 60 → weight ≤ 16384 → (pos 1 ≤ℤ margin_units bits low weight) × (unsigned_abs (margin_units bits low weight) ≤ 2 ^ 90)
@@ -151,18 +148,21 @@ margin_between bits low weight room light =
     as_whole : (n : ℕ) → 1 * 1 ≤ n → pos 1 ≤ℤ pos n
     as_whole n h = omega (arith, ints)
 
+-- pi is at least 0, in units
+pub pi_at_least : (bits : ℕ) (L H : ℤ) → H ≡ L +ℤ pos 1 → FromSomeOn (λ n. Encloses bits (record { lo = L; hi = H }) (pi_sum n)) → pos 0 ≤ℤ H
+pi_at_least bits L H unit pi = above L H (pi_units bits L H unit pi).0 unit
+  where
+    above : (L H : ℤ) → pos 0 ≤ℤ L → H ≡ L +ℤ pos 1 → pos 0 ≤ℤ H
+    above L H h k = omega (arith, ints)
+
 pub sum_fits : (bits low : ℕ) (L H D M : ℤ) (r : Neighbourhood) (weight reach : ℕ) → bits ≤ 60
     → FromSomeOn (λ n. Encloses bits (record { lo = L; hi = H }) (pi_sum n)) → H ≡ L +ℤ pos 1 → IsNeighbourhood r → weight ≤ 16384 → reach ≤ 4259840
     → D ≡ drift_units H r reach → M ≡ margin_units bits low weight → IsSum D M
 sum_fits bits low L H D M r weight reach room pi unit near light slow D_is M_is =
     let size = (pi_size bits L H room pi unit).1 in
-    let least : pos 0 ≤ℤ H = above L H (pi_units bits L H unit pi).0 unit in
-    let drift = drift_between H r reach near least size slow in
+    let least : pos 0 ≤ℤ H = pi_at_least bits L H unit pi in
     let margin = margin_between bits low weight room light in
-    subst₂ IsSum (sym D_is) (sym M_is) (sum_of (drift_units H r reach) (margin_units bits low weight) drift.0 drift.1 margin.0 margin.1)
-  where
-    above : (L H : ℤ) → pos 0 ≤ℤ L → H ≡ L +ℤ pos 1 → pos 0 ≤ℤ H
-    above L H h k = omega (arith, ints)
+    subst₂ IsSum (sym D_is) (sym M_is) (sum_of (drift_units H r reach) (margin_units bits low weight) (drift_at_least H r reach least near) (drift_size H r reach near size slow) margin.0 margin.1)
 
 -- ---- what is needed
 

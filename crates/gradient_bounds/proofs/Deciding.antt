@@ -1,9 +1,10 @@
 -- How the extremes and the pairs decide.
-use Rattle.std.proofs.Common.{◌≡◌, ◌↔◌, refl, sym, ap, ap₂, ◌∙◌, subst, subst₂, ℕ, ◌+◌, ◌-◌, ◌*◌, ◌^◌, ◌<◌, ◌≤◌, List, ℤ, pos, negsuc, ◌+ℤ◌, ◌-ℤ◌, ◌*ℤ◌, neg_ℤ, ◌≤ℤ◌}
-use Rattle.std.proofs.Common.{unsigned_abs, FitsSigned, T, Bool, true, false, arith, mul-le-mul, mul-le-mul_left, mul-le-mul_right}
-use Rattle.std.specs.Prelude.{int_le as is_at_most, IsTrue}
+use Rattle.std.proofs.Common.{◌≡◌, ◌↔◌, refl, sym, ap₂, ◌∙◌, subst, subst₂, ℕ, ◌+◌, ◌-◌, ◌*◌, ◌^◌, ◌≤◌, List, ℤ, pos, negsuc, ◌+ℤ◌, ◌-ℤ◌, ◌*ℤ◌, neg_ℤ, ◌≤ℤ◌}
+use Rattle.std.proofs.Common.{unsigned_abs, slice_index_or, FitsSigned, T, Bool, true, false, not, arith, mul-le-mul, mul-le-mul_left, mul-le-mul_right}
+use Rattle.std.specs.Prelude.{int_le as is_at_most, int_lt as is_less, IsTrue}
 use Rattle.std.specs.Int.{w128}
-use Rattle.std.specs.Int.Signed.{le_z_yes}
+use Rattle.std.specs.Int.Signed.{le_z_yes, lt_z_no}
+use Rattle.std.proofs.lemmas.Nat.{pow_pos}
 use Rattle.std.proofs.lemmas.Int.{ints, fits_signed_from_abs}
 use Rattle.edge_words.specs.Letters.{IsPlace}
 use Rattle.exp_sums.specs.FormalPoint.{FormalPoint}
@@ -14,13 +15,12 @@ use Rattle.trig_meaning.specs.PartialSums.{pi_sum}
 use Rattle.trig_meaning.specs.FromSomeOn.{FromSomeOn}
 use Rattle.directed_fixed.specs.Ends.{Encloses}
 use Rattle.directed_fixed.proofs.Rounding.{rounded_mono}
-use Rattle.directed_fixed.proofs.PiSums.{pi_units}
 use Rattle.defining_functions.specs.Functions.{defining_function}
 use Rattle.gradient_bounds.specs.declared.most.Most.{Most}
 use Rattle.gradient_bounds.specs.declared.neighbourhood.Neighbourhood.{Neighbourhood}
 use Rattle.gradient_bounds.specs.Neighbourhood.{IsNeighbourhood}
-use Rattle.gradient_bounds.specs.Decision.{rounded_up, drift_units, margin_units, needed_units, needed, difference, Reaches, FallsBelow, EachReaches, IsInLimits, IsWithinMost, IsMost}
-use Rattle.gradient_bounds.proofs.Computed.{rounded_up_is_ceiling}
+use Rattle.gradient_bounds.specs.Decision.{rounded_up, drift_units, needed_units, needed, difference, Reaches, FallsBelow, EachReaches, SomeFallsBelow, IsInLimits, IsWithinMost, IsMost}
+use Rattle.gradient_bounds.proofs.Computed.{rounded_up_is_ceiling, drift_at_least, pi_at_least}
 
 -- ---- one pair
 
@@ -31,6 +31,10 @@ at_most_iff a b = (λ h. le_z_yes (subst T (sym h) tt), λ h. is_true (is_at_mos
     is_true : (b : Bool) → T b → IsTrue b
     is_true true t = refl
     is_true false t = absurd t
+
+-- and the machine's strict one, where it fails
+pub not_less : (a b : ℤ) → is_less a b ≡ false → b ≤ℤ a
+not_less a b h = lt_z_no (subst (λ t. T (not t)) (sym h) tt)
 
 -- a size that is known with the shift is from 0 on
 pub size_at_least : (w : List ℕ) (g : FormalPoint → ℕ) (x : ℤ) → HasShift w → ((v : FormalPoint) → IsShift w v → x ≡ pos (g v)) → pos 0 ≤ℤ x
@@ -100,13 +104,6 @@ needed_mono bits low H r a b c d positive near lighter slower =
     add_up : (x y : ℤ) (m n : ℕ) → x ≤ℤ y → m ≤ n → (pos (256 * a) +ℤ (x +ℤ pos m)) ≤ℤ (pos (256 * b) +ℤ (y +ℤ pos n))
     add_up x y m n h k = omega (arith, ints, lighter)
 
--- pi is at least 0, in units
-pi_at_least : (bits : ℕ) (L H : ℤ) → H ≡ L +ℤ pos 1 → FromSomeOn (λ n. Encloses bits (record { lo = L; hi = H }) (pi_sum n)) → pos 0 ≤ℤ H
-pi_at_least bits L H unit pi = above L H (pi_units bits L H unit pi).0 unit
-  where
-    above : (L H : ℤ) → pos 0 ≤ℤ L → H ≡ L +ℤ pos 1 → pos 0 ≤ℤ H
-    above L H h k = omega (arith, ints)
-
 -- what the largest function would need is at least what each needs
 most_needs : (bits low : ℕ) (H : ℤ) (r : Neighbourhood) (w : List ℕ) (most : Most) (v : FormalPoint) (k l : ℕ) → pos 0 ≤ℤ H → IsNeighbourhood r → IsInLimits most
     → IsWithinMost w most k l → IsShift w v
@@ -131,3 +128,69 @@ least_suffices bits low L H r w most uppers lowers least unit pi near is_most be
   where
     through : (a b c d : ℤ) → a ≤ℤ b → b ≤ℤ c → c ≤ℤ d → a ≤ℤ d
     through a b c d h k l = omega (arith, ints)
+
+-- ---- a fall
+
+-- each function needs at least one unit
+needed_positive : (bits low : ℕ) (H : ℤ) (r : Neighbourhood) (f : FormalPoint) → pos 0 ≤ℤ H → IsNeighbourhood r → pos 1 ≤ℤ needed bits low H r f
+needed_positive bits low H r f positive near =
+    let some : 1 ≤ 2 ^ (bits - low) = pow_pos (bits - low) in
+    let one : 1 ≤ 1 + weight f = omega arith in
+    let margin : 1 * 1 ≤ 2 ^ (bits - low) * (1 + weight f) = mul-le-mul some one in
+    add_up (256 * weight f) (drift_units H r (reach f)) (2 ^ (bits - low) * (1 + weight f)) (drift_at_least H r (reach f) positive near) margin
+  where
+    add_up : (a : ℕ) (x : ℤ) (m : ℕ) → pos 0 ≤ℤ x → 1 * 1 ≤ m → pos 1 ≤ℤ (pos a +ℤ (x +ℤ pos m))
+    add_up a x m h k = omega (arith, ints)
+
+-- so a difference from 0 on does not fall below
+pub no_fall : (bits low : ℕ) (L H : ℤ) (r : Neighbourhood) (w : List ℕ) (k l : ℕ) (z : ℤ) → H ≡ L +ℤ pos 1
+    → FromSomeOn (λ n. Encloses bits (record { lo = L; hi = H }) (pi_sum n)) → IsNeighbourhood r → HasShift w → pos 0 ≤ℤ z
+    → ¬ (FallsBelow (needed bits low H r) w k l z)
+no_fall bits low L H r w k l z unit pi near shift above falls =
+    let f = defining_function shift.0 w k l in
+    contrary z (needed bits low H r f) above (falls shift.0 shift.1) (needed_positive bits low H r f (pi_at_least bits L H unit pi) near)
+  where
+    contrary : (z t : ℤ) → pos 0 ≤ℤ z → z ≤ℤ neg_ℤ t → pos 1 ≤ℤ t → ⊥
+    contrary z t h k p = absurd (omega (arith, ints))
+
+-- and none does where the least one is from 0 on
+pub none_falls : (bits low : ℕ) (L H : ℤ) (r : Neighbourhood) (w : List ℕ) (uppers lowers : List ℤ) (least : ℤ) → H ≡ L +ℤ pos 1
+    → FromSomeOn (λ n. Encloses bits (record { lo = L; hi = H }) (pi_sum n)) → IsNeighbourhood r → HasShift w
+    → ((i j : ℕ) → IsPlace w i → IsPlace w j → least ≤ℤ difference uppers lowers i j) → pos 0 ≤ℤ least
+    → ¬ (SomeFallsBelow (needed bits low H r) w uppers lowers)
+none_falls bits low L H r w uppers lowers least unit pi near shift below above some =
+    no_fall bits low L H r w some.upper some.row.lower (difference uppers lowers some.upper some.row.lower) unit pi near shift
+    (through least (difference uppers lowers some.upper some.row.lower) above (below some.upper some.row.lower some.is_upper some.row.is_lower)) some.row.falls
+  where
+    through : (b c : ℤ) → pos 0 ≤ℤ b → b ≤ℤ c → pos 0 ≤ℤ c
+    through b c h k = omega (arith, ints)
+
+-- ---- what a comparison says of all
+
+-- what is false does not hold of what would follow
+pub never : (P : Type 0) → IsTrue false → P
+never P h = cc
+
+pub then_not : (A B : Type 0) → (IsTrue false ↔ A) → (B → A) → IsTrue false ↔ B
+then_not A B h f = (λ t. never B t, λ b. h.1 (f b))
+
+pub holds : (B : Type 0) → B → IsTrue true ↔ B
+holds B b = (λ _. b, λ _. refl)
+
+pub fails : (B : Type 0) → ¬ B → IsTrue false ↔ B
+fails B none = (λ t. never B t, λ b. absurd (none b))
+
+pub false_not : (A : Type 0) → (IsTrue false ↔ A) → ¬ A
+false_not A h a = never ⊥ (h.1 a)
+
+-- a lesser upper number and a greater lower one differ by less
+pub differences_in_order : (uppers lowers : List ℤ) (k l i j : ℕ) → slice_index_or uppers k (pos 0) ≤ℤ slice_index_or uppers (i - 1) (pos 0)
+    → slice_index_or lowers (j - 1) (pos 0) ≤ℤ slice_index_or lowers l (pos 0) → difference uppers lowers (k + 1) (l + 1) ≤ℤ difference uppers lowers i j
+differences_in_order uppers lowers k l i j h h' =
+    let back : k + 1 - 1 ≡ k = omega arith in
+    let back' : l + 1 - 1 ≡ l = omega arith in
+    subst₂ (λ a b. (slice_index_or uppers a (pos 0) -ℤ slice_index_or lowers b (pos 0)) ≤ℤ difference uppers lowers i j) (sym back) (sym back')
+    (in_order (slice_index_or uppers k (pos 0)) (slice_index_or uppers (i - 1) (pos 0)) (slice_index_or lowers (j - 1) (pos 0)) (slice_index_or lowers l (pos 0)) h h')
+  where
+    in_order : (a b c d : ℤ) → a ≤ℤ b → c ≤ℤ d → (a -ℤ d) ≤ℤ (b -ℤ c)
+    in_order a b c d h k = omega (arith, ints)

@@ -39,7 +39,7 @@ use Rattle.gradient_bounds.specs.Table.{PreparedWord, IsDirOfHeight, IsTableOf, 
 use Rattle.gradient_bounds.proofs.EachFunction.{has_shift}
 use Rattle.gradient_bounds.proofs.Numbering.{are_numbers, number_at, difference_is}
 use Rattle.gradient_bounds.proofs.Numbers.{IsScale}
-use Rattle.gradient_bounds.proofs.Sums.{any_at, IsListed, upper_listed, lower_listed, function_listed, bounds_hold}
+use Rattle.gradient_bounds.proofs.Sums.{any_at, IsListed, number_difference, upper_listed, lower_listed, function_listed, bounds_hold}
 use Rattle.gradient_bounds.proofs.Tested.{IsTested, IsDriftIn, each_decided, each_clear, clear_each, some_decided, some_shut, shut_some}
 
 -- ---- a table that is filled again
@@ -194,3 +194,97 @@ centre_in_unit box x y h x_is y_is = (
   subst IsUnitFraction (sym x_is) (centre_fraction box.i box.level h.depth h.column),
   subst IsUnitFraction (sym y_is) (centre_fraction box.j box.level h.depth h.row),
 )
+
+-- ---- bounds of one form
+
+-- what is said of the bounds of a form by its number c and its weight z
+pub record IsBound (bits : ℕ) (now : PreparedWord) (form : List ℕ → FormalPoint → FormalPoint) (c z : ℤ) : Type 0 where
+  pub number_fits : FitsSigned w128 c
+  pub size : unsigned_abs c ≤ 2 ^ 99
+  pub weight_fits : FitsSigned w64 z
+  pub least : pos 0 ≤ℤ z
+  pub shift : HasShift now.word
+  pub ends : (r : Ends) → r ≡ record { lo = c -ℤ pos (256 * unsigned_abs z); hi = c +ℤ pos (256 * unsigned_abs z) } → (v : FormalPoint) → IsShift now.word v
+      → r ≡ bounds_in now.table (form now.word v)
+  pub holds : (r : Ends) → r ≡ record { lo = c -ℤ pos (256 * unsigned_abs z); hi = c +ℤ pos (256 * unsigned_abs z) }
+      → IfSome now.point (λ q. (v : FormalPoint) → IsShift now.word v → FromSomeOn (λ n. Encloses bits r (value_at n (form now.word v) (value q.0) (value q.1))))
+
+module _ (bits : ℕ) (w u : List ℕ) (m : Most) (p : Option (Written × Written)) (table : List SineLow) (us ls : List ℤ) (h : IsPrepared bits w u m p table us ls)
+    (now : PreparedWord) (view : ◌≡◌ {A = PreparedWord} (record { word = w; point = p; table = table }) now) where
+  bound_of : (form : List ℕ → FormalPoint → FormalPoint) (c z : ℤ) → ((v : FormalPoint) → IsShift w v → IsListed table (form w v)) → unsigned_abs c ≤ 2 ^ 80
+      → ((v : FormalPoint) → IsShift w v → c ≡ number_in table (form w v)) → ((v : FormalPoint) → IsShift u v → z ≡ pos (weight (form u v))) → z ≤ℤ pos 16384
+      → IsBound bits now form c z
+  bound_of form c z listed size number weighs most =
+      let shift = has_shift w h.word h.stable in
+      let weight_is = subst (λ x. (v : FormalPoint) → IsShift x v → z ≡ pos (weight (form x v))) h.same_word weighs in
+      let here = weight_is shift.0 shift.1 in
+      let ends : (r : Ends) → r ≡ record { lo = c -ℤ pos (256 * unsigned_abs z); hi = c +ℤ pos (256 * unsigned_abs z) } → (v : FormalPoint) → IsShift w v → r ≡ bounds_in table (form w v) =
+          λ r r_is v is. ends_are table (form w v) r c (unsigned_abs z) r_is (number v is) (ap unsigned_abs (weight_is v is)) in
+      subst (λ (n : PreparedWord). IsBound bits n form c z) view (record {
+        number_fits = fits_signed_from_abs w128 c (omega (arith, size));
+        size = omega (arith, size);
+        weight_fits = fits_signed_from_abs w64 z (small z (weight (form w shift.0)) here most);
+        least = nonneg z (weight (form w shift.0)) here;
+        shift = shift;
+        ends = ends;
+        holds = λ r r_is. form_holds bits p table (IsShift w) (form w) r h.filled listed (ends r r_is);
+      })
+    where
+      nonneg : (z : ℤ) (n : ℕ) → z ≡ pos n → pos 0 ≤ℤ z
+      nonneg z n e = omega (arith, ints, e)
+
+      small : (z : ℤ) (n : ℕ) → z ≡ pos n → z ≤ℤ pos 16384 → unsigned_abs z < 2 ^ 63
+      small z n e h = omega (arith, ints, e, h)
+
+  place_in : (k : ℕ) → IsPlace now.word k → IsPlace w k
+  place_in k = subst (λ (n : PreparedWord). IsPlace n.word k) (sym view)
+
+  upper_number : (k : ℕ) (a : ℤ) → IsPlace w k → a ≡ get_or us (k - 1) a → IsNumberOf w table (λ v. upper_height v w k) a
+  upper_number k a place a_is =
+      let low = place.0 in
+      let back : k - 1 + 1 ≡ k = omega (arith, low) in
+      subst (λ j. IsNumberOf w table (λ v. upper_height v w j) a) back
+      (subst (IsNumberOf w table (λ v. upper_height v w (k - 1 + 1))) (sym a_is) (number_at w table (λ i v. upper_height v w (i + 1)) us h.uppers k a place))
+
+  lower_number : (l : ℕ) (b : ℤ) → IsPlace w l → b ≡ get_or ls (l - 1) b → IsNumberOf w table (λ v. lower_height v w l) b
+  lower_number l b place b_is =
+      let low = place.0 in
+      let back : l - 1 + 1 ≡ l = omega (arith, low) in
+      subst (λ j. IsNumberOf w table (λ v. lower_height v w j) b) back
+      (subst (IsNumberOf w table (λ v. lower_height v w (l - 1 + 1))) (sym b_is) (number_at w table (λ i v. lower_height v w (i + 1)) ls h.lowers l b place))
+
+  -- what is said of two numbers
+  pub record IsPair (k l : ℕ) (a b z : ℤ) : Type 0 where
+    pub upper_fits : FitsSigned w128 a
+    pub lower_fits : FitsSigned w128 b
+    pub bound : IsBound bits now (λ w v. defining_function v w k l) (a -ℤ b) z
+
+  pub pair : (k l : ℕ) (a b z : ℤ) → IsPlace now.word k → IsPlace now.word l → a ≡ get_or us (k - 1) a → b ≡ get_or ls (l - 1) b
+      → ((v : FormalPoint) → IsShift u v → z ≡ pos (weight (defining_function v u k l))) → z ≤ℤ pos 16384 → IsPair k l a b z
+  pair k l a b z p q a_is b_is weighs most =
+      let upper = upper_number k a (place_in k p) a_is in
+      let lower = lower_number l b (place_in l q) b_is in
+      record {
+        upper_fits = fits_signed_from_abs w128 a (omega (arith, upper.small));
+        lower_fits = fits_signed_from_abs w128 b (omega (arith, lower.small));
+        bound = bound_of (λ w v. defining_function v w k l) (a -ℤ b) z (λ v shift. function_listed w table h.directions v shift k l (place_in k p) (place_in l q))
+            (apart a b upper.small lower.small)
+            (λ v shift. ap₂ ◌-ℤ◌ (upper.is v shift) (lower.is v shift) ∙ sym (number_difference table v w k l)) weighs most;
+      }
+    where
+      apart : (a b : ℤ) → unsigned_abs a ≤ 2 ^ 76 → unsigned_abs b ≤ 2 ^ 76 → unsigned_abs (a -ℤ b) ≤ 2 ^ 80
+      apart a b h k = omega (arith, ints, h, k)
+
+  pub upper_bound : (k : ℕ) (a z : ℤ) (f : FormalPoint) → IsPlace now.word k → a ≡ get_or us (k - 1) a → ((v : FormalPoint) → IsShift u v → f ≡ upper_height v u k)
+      → z ≡ pos (weight f) → weight f ≤ 16384 → IsBound bits now (λ w v. upper_height v w k) a z
+  upper_bound k a z f place a_is f_is z_is light =
+      let upper = upper_number k a (place_in k place) a_is in
+      bound_of (λ w v. upper_height v w k) a z (λ v shift. upper_listed w table h.directions v shift k (place_in k place)) (omega (arith, upper.small)) upper.is
+      (λ v shift. z_is ∙ ap (λ f. pos (weight f)) (f_is v shift)) (subst (λ y. y ≤ℤ pos 16384) (sym z_is) (pos_le (weight f) 16384 light))
+
+  pub lower_bound : (l : ℕ) (b z : ℤ) (f : FormalPoint) → IsPlace now.word l → b ≡ get_or ls (l - 1) b → ((v : FormalPoint) → IsShift u v → f ≡ lower_height v u l)
+      → z ≡ pos (weight f) → weight f ≤ 16384 → IsBound bits now (λ w v. lower_height v w l) b z
+  lower_bound l b z f place b_is f_is z_is light =
+      let lower = lower_number l b (place_in l place) b_is in
+      bound_of (λ w v. lower_height v w l) b z (λ v shift. lower_listed w table h.directions v shift l (place_in l place)) (omega (arith, lower.small)) lower.is
+      (λ v shift. z_is ∙ ap (λ f. pos (weight f)) (f_is v shift)) (subst (λ y. y ≤ℤ pos 16384) (sym z_is) (pos_le (weight f) 16384 light))

@@ -6,6 +6,7 @@
 ghost use Rattle.std.specs.Prelude.{◌≡◌, ◌↔◌, ℕ, ◌^◌, ◌≤◌, ◌≤ℤ◌, length, unsigned_abs, IsTrue};
 ghost use Rattle.std.specs.List.{All};
 ghost use Rattle.edge_words.specs.Letters.{IsPlace};
+ghost use Rattle.unfolding.specs.Shift.{HasShift};
 ghost use Rattle.gradient_bounds.specs.Decision.{AreNumbers, difference, Reaches, FallsBelow, EachReaches, SomeInRowFalls, SomeFallsBelow, IsInLimits, IsMost};
 ghost use Rattle.gradient_bounds.specs.Decision.{needed, needed_units};
 ghost use Rattle.gradient_bounds.specs.Neighbourhood.{IsNeighbourhood};
@@ -67,6 +68,7 @@ pub fn some_falls_below<S: Scale>(
 fn nearest(functions: &Functions, uppers: &[i128], lowers: &[i128]) -> (u32, u32)
     requires uppers { AreNumbers functions.now uppers.now }
     requires lowers { AreNumbers functions.now lowers.now }
+    ensures shift { HasShift functions.now }
     ensures upper { IsPlace functions.now result.0 }
     ensures lower { IsPlace functions.now result.1 }
     ensures least { (i j : ℕ) → IsPlace functions.now i → IsPlace functions.now j → difference uppers.now lowers.now result.0 result.1 ≤ℤ difference uppers.now lowers.now i j }

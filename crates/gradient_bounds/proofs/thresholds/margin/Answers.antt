@@ -1,4 +1,4 @@
-use Rattle.std.proofs.Common.{◌≡◌, unsigned_abs, FitsSigned}
+use Rattle.std.proofs.Common.{unsigned_abs, FitsSigned}
 use Rattle.std.specs.Int.{w64}
 use Rattle.std.proofs.lemmas.Int.{to_z-of_z}
 use Rattle.gradient_bounds.proofs.Margins.{IsMargin, margin_at}
