@@ -3,19 +3,27 @@ use Rattle.gradient_bounds.proofs.Tests.{IsPair, pair}
 use Rattle.gradient_bounds.proofs.prepared.Prepared.bounds.Given as given
 use Rattle.gradient_bounds.proofs.prepared.Prepared.bounds.Goals as goal
 
-is_pair : (g : given.Over) (c : goal.After-weight g)
+is_pair_before : (g : given.Over) (c : goal.After-weight g)
     → IsPair g.S.Scale.BITS c.self.inside.word c.self.inside.functions c.self.inside.most c.self.inside.point c.self.inside.table.items c.self.inside.uppers.items
     c.self.inside.lowers.items c.self.invariant c.args.self.now c.self.view_is c.args.k c.args.l c.index.result.now c.index-2.result.now c.weight.result
-is_pair g c =
+is_pair_before g c =
     pair g.S.Scale.BITS c.self.inside.word c.self.inside.functions c.self.inside.most c.self.inside.point c.self.inside.table.items c.self.inside.uppers.items
     c.self.inside.lowers.items c.self.invariant c.args.self.now c.self.view_is c.args.k c.args.l c.index.result.now c.index-2.result.now c.weight.result
     c.requires.upper c.requires.lower c.index.ensures c.index-2.ensures c.weight.ensures.is c.weight.ensures.limit
 
 pub around-requires-clause-weight_least : goal.around-requires-clause-weight_least
 around-requires-clause-weight_least g c =
-    let is = is_pair g c in
+    let is = is_pair_before g c in
     let fits = is.bound.weight_fits in
     simp to_z-of_z is.bound.least
+
+is_pair : (g : given.Over) (c : goal.After-around g)
+    → IsPair g.S.Scale.BITS c.self.inside.word c.self.inside.functions c.self.inside.most c.self.inside.point c.self.inside.table.items c.self.inside.uppers.items
+    c.self.inside.lowers.items c.self.invariant c.args.self.now c.self.view_is c.args.k c.args.l c.index.result.now c.index-2.result.now c.weight.result
+is_pair g c =
+    pair g.S.Scale.BITS c.self.inside.word c.self.inside.functions c.self.inside.most c.self.inside.point c.self.inside.table.items c.self.inside.uppers.items
+    c.self.inside.lowers.items c.self.invariant c.args.self.now c.self.view_is c.args.k c.args.l c.index.result.now c.index-2.result.now c.weight.result
+    c.requires.upper c.requires.lower c.index.ensures c.index-2.ensures c.weight.ensures.is c.weight.ensures.limit
 
 pub returns-clause-shift : goal.returns-clause-shift
 returns-clause-shift g c = (is_pair g c).bound.shift

@@ -16,8 +16,10 @@ invariant_of-self g c =
     let len : length c.fill.new.table ≡ i.table.len =
         omega (arith, sym (length-map c.fill.new.table (λ (e : SineLow). e.dir)), ap length same, length-map i.table.items (λ (e : SineLow). e.dir), i.table.ok.0) in
     let table_is = take_at c.fill.new.table (drop (length c.fill.new.table) i.table.items) i.table.len len in
-    let us_len : length c.number_uppers.new.numbers ≡ i.uppers.len = ? in
-    let ls_len : length c.number_lowers.new.numbers ≡ i.lowers.len = ? in
+    let us_len : length c.number_uppers.new.numbers ≡ i.uppers.len =
+        omega (arith, c.number_uppers.ensures.count, ap length c.self.invariant.same_word, c.self.invariant.uppers.count, i.uppers.ok.0) in
+    let ls_len : length c.number_lowers.new.numbers ≡ i.lowers.len =
+        omega (arith, c.number_lowers.ensures.count, ap length c.self.invariant.same_word, c.self.invariant.lowers.count, i.lowers.ok.0) in
     let us_is = take_at c.number_uppers.new.numbers (drop (length c.number_uppers.new.numbers) i.uppers.items) i.uppers.len us_len in
     let ls_is = take_at c.number_lowers.new.numbers (drop (length c.number_lowers.new.numbers) i.lowers.items) i.lowers.len ls_len in
     filled_again g.S.Scale.BITS i.word i.functions i.most i.point i.table.items c.fill.new.table _ i.uppers.items i.lowers.items c.number_uppers.new.numbers
