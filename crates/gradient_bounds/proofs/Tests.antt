@@ -107,6 +107,17 @@ ends_are table f r z a r_is z_is a_is = r_is ∙ ap₂ (λ (z : ℤ) (a : ℕ). 
 
 -- ---- tests
 
+-- what the decision says of the table, and of the functions in a neighbourhood
+pub record IsEachTest (bits low high : ℕ) (pi : ℤ) (u : List ℕ) (us ls : List ℤ) (r : Neighbourhood) (drift : FormalPoint → ℤ) (now : PreparedWord) : Type 0 where
+  pub decided : EachReaches (needed bits low pi r) u us ls ↔ EachFunction now.word (LowerEndReaches bits low drift now.table)
+  pub clear : EachReaches (needed bits low pi r) u us ls → EachFunction now.word (IsClearIn (ball_of r) (slack low))
+  pub found : EachFunction now.word (IsClearIn (ball_of r) (slack high)) → EachReaches (needed bits low pi r) u us ls
+
+pub record IsSomeTest (bits low high : ℕ) (pi : ℤ) (u : List ℕ) (us ls : List ℤ) (r : Neighbourhood) (drift : FormalPoint → ℤ) (now : PreparedWord) : Type 0 where
+  pub decided : SomeFallsBelow (needed bits low pi r) u us ls ↔ SomeFunction now.word (UpperEndFalls bits low drift now.table)
+  pub shut : SomeFallsBelow (needed bits low pi r) u us ls → SomeFunction now.word (IsShutIn (ball_of r) (slack low))
+  pub found : SomeFunction now.word (IsShutIn (ball_of r) (slack high)) → SomeFallsBelow (needed bits low pi r) u us ls
+
 module _ (bits low high : ℕ) (L H : ℤ) (scale : IsScale bits low high L H) (w u : List ℕ) (m : Most) (p : Option (Written × Written)) (table : List SineLow)
     (us ls us' ls' : List ℤ) (h : IsPrepared bits w u m p table us ls) (us_is : us' ≡ us) (ls_is : ls' ≡ ls) where
   tested : IsTested w table us ls
@@ -139,33 +150,23 @@ module _ (bits low high : ℕ) (L H : ℤ) (scale : IsScale bits low high L H) (
     abbrev needs : FormalPoint → ℤ
     needs = needed bits low H r
 
-    pub decided_each : EachReaches needs u us' ls' ↔ EachFunction now.word (LowerEndReaches bits low drift now.table)
-    decided_each =
+    pub each_test : IsEachTest bits low high H u us' ls' r drift now
+    each_test =
         let d = each_decided bits low high L H scale w table us ls tested r near filled drift drift_is in
-        subst (λ (n : PreparedWord). EachReaches needs u us' ls' ↔ EachFunction n.word (LowerEndReaches bits low drift n.table)) view
-        (λ e. d.0 ((each_kept needs).0 e), λ e. (each_kept needs).1 (d.1 e))
+        subst (IsEachTest bits low high H u us' ls' r drift) view (record {
+          decided = (λ e. d.0 ((each_kept needs).0 e), λ e. (each_kept needs).1 (d.1 e));
+          clear = λ e. each_clear bits low high L H scale w table us ls tested r near filled drift drift_is ((each_kept needs).0 e);
+          found = λ e. (each_kept needs).1 (clear_each bits low high L H scale w table us ls tested r near filled drift drift_is e);
+        })
 
-    pub clear_of_each : EachReaches needs u us' ls' → EachFunction now.word (IsClearIn (ball_of r) (slack low))
-    clear_of_each e = subst (λ (n : PreparedWord). EachFunction n.word (IsClearIn (ball_of r) (slack low))) view
-        (each_clear bits low high L H scale w table us ls tested r near filled drift drift_is ((each_kept needs).0 e))
-
-    pub each_of_clear : EachFunction now.word (IsClearIn (ball_of r) (slack high)) → EachReaches needs u us' ls'
-    each_of_clear e = (each_kept needs).1 (clear_each bits low high L H scale w table us ls tested r near filled drift drift_is
-        (subst (λ (n : PreparedWord). EachFunction n.word (IsClearIn (ball_of r) (slack high))) (sym view) e))
-
-    pub decided_some : SomeFallsBelow needs u us' ls' ↔ SomeFunction now.word (UpperEndFalls bits low drift now.table)
-    decided_some =
+    pub some_test : IsSomeTest bits low high H u us' ls' r drift now
+    some_test =
         let d = some_decided bits low high L H scale w table us ls tested r near filled drift drift_is in
-        subst (λ (n : PreparedWord). SomeFallsBelow needs u us' ls' ↔ SomeFunction n.word (UpperEndFalls bits low drift n.table)) view
-        (λ e. d.0 ((some_kept needs).0 e), λ e. (some_kept needs).1 (d.1 e))
-
-    pub shut_of_some_falls : SomeFallsBelow needs u us' ls' → SomeFunction now.word (IsShutIn (ball_of r) (slack low))
-    shut_of_some_falls e = subst (λ (n : PreparedWord). SomeFunction n.word (IsShutIn (ball_of r) (slack low))) view
-        (some_shut bits low high L H scale w table us ls tested r near filled drift drift_is ((some_kept needs).0 e))
-
-    pub some_falls_of_shut : SomeFunction now.word (IsShutIn (ball_of r) (slack high)) → SomeFallsBelow needs u us' ls'
-    some_falls_of_shut e = (some_kept needs).1 (shut_some bits low high L H scale w table us ls tested r near filled drift drift_is
-        (subst (λ (n : PreparedWord). SomeFunction n.word (IsShutIn (ball_of r) (slack high))) (sym view) e))
+        subst (IsSomeTest bits low high H u us' ls' r drift) view (record {
+          decided = (λ e. d.0 ((some_kept needs).0 e), λ e. (some_kept needs).1 (d.1 e));
+          shut = λ e. some_shut bits low high L H scale w table us ls tested r near filled drift drift_is ((some_kept needs).0 e);
+          found = λ e. (some_kept needs).1 (shut_some bits low high L H scale w table us ls tested r near filled drift drift_is e);
+        })
 
 -- ---- centres of boxes
 

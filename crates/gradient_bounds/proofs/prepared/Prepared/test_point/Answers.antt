@@ -1,16 +1,14 @@
-use Rattle.std.proofs.Common.{◌≡◌, sym, ap, subst, subst₂, ◌∙◌}
-use Rattle.std.specs.Prelude.{◌↔◌, IsTrue}
+use Rattle.std.proofs.Common.{sym, ap, subst, subst₂, ◌∙◌}
 use Rattle.rat_core.specs.Written.{value}
-use Rattle.exp_sums.specs.FormalPoint.{FormalPoint}
 use Rattle.gradient_bounds.specs.Corridor.{EachFunction}
 use Rattle.gradient_bounds.specs.Clear.{slack}
-use Rattle.gradient_bounds.specs.Neighbourhood.{Ball, ball_of, IsClearIn}
-use Rattle.gradient_bounds.specs.Table.{no_drift, LowerEndReaches}
+use Rattle.gradient_bounds.specs.Neighbourhood.{Ball, IsClearIn}
+use Rattle.gradient_bounds.specs.Table.{no_drift}
 use Rattle.gradient_bounds.proofs.Boxes.{clear_at_point, clear_in_point}
 use Rattle.gradient_bounds.proofs.Margins.{slack_positive, clear_at_point_gives_corridor_lem}
-use Rattle.gradient_bounds.proofs.Numbers.{IsScale}
 use Rattle.gradient_bounds.proofs.Tested.{no_drift_is, unit_triangle}
-use Rattle.gradient_bounds.proofs.Tests.{numbers_up, numbers_low, decided_each, clear_of_each, each_of_clear}
+use Rattle.gradient_bounds.proofs.Tests.{IsEachTest, numbers_up, numbers_low, each_test}
+use Rattle.gradient_bounds.proofs.Numbers.{IsScale}
 use Rattle.gradient_bounds.proofs.prepared.Prepared.test_point.Given as given
 use Rattle.gradient_bounds.proofs.prepared.Prepared.test_point.Goals as goal
 
@@ -32,63 +30,43 @@ move_to-requires-clause-y_most g c = (unit_triangle (value c.args.x) (value c.ar
 pub each_reaches-requires-clause-uppers : goal.each_reaches-requires-clause-uppers
 each_reaches-requires-clause-uppers g c =
     let i = c.self.inside in
-    numbers_up g.S.Scale.BITS g.S.Scale.LOW_BITS g.S.Scale.HIGH_BITS g.S.Scale.PI_LO g.S.Scale.PI_HI (scale g) i.word i.functions i.most i.point i.table.items i.uppers.items
-    i.lowers.items c.deref.result.now c.deref-2.result.now c.self.invariant c.deref.ensures.value c.deref-2.ensures.value
+    numbers_up g.S.Scale.BITS g.S.Scale.LOW_BITS g.S.Scale.HIGH_BITS g.S.Scale.PI_LO g.S.Scale.PI_HI (scale g) i.word i.functions i.most i.point i.table.items
+    i.uppers.items i.lowers.items c.deref.result.now c.deref-2.result.now c.self.invariant c.deref.ensures.value c.deref-2.ensures.value
 
 pub each_reaches-requires-clause-lowers : goal.each_reaches-requires-clause-lowers
 each_reaches-requires-clause-lowers g c =
     let i = c.self.inside in
-    numbers_low g.S.Scale.BITS g.S.Scale.LOW_BITS g.S.Scale.HIGH_BITS g.S.Scale.PI_LO g.S.Scale.PI_HI (scale g) i.word i.functions i.most i.point i.table.items i.uppers.items
-    i.lowers.items c.deref.result.now c.deref-2.result.now c.self.invariant c.deref.ensures.value c.deref-2.ensures.value
+    numbers_low g.S.Scale.BITS g.S.Scale.LOW_BITS g.S.Scale.HIGH_BITS g.S.Scale.PI_LO g.S.Scale.PI_HI (scale g) i.word i.functions i.most i.point i.table.items
+    i.uppers.items i.lowers.items c.deref.result.now c.deref-2.result.now c.self.invariant c.deref.ensures.value c.deref-2.ensures.value
 
-decided : (g : given.Over) (c : goal.After-each_reaches g)
-    → IsTrue c.each_reaches.result ↔ EachFunction c.move_to.new.self.word (LowerEndReaches g.S.Scale.BITS g.S.Scale.LOW_BITS no_drift c.move_to.new.self.table)
-decided g c =
+is : (g : given.Over) (c : goal.After-each_reaches g)
+    → IsEachTest g.S.Scale.BITS g.S.Scale.LOW_BITS g.S.Scale.HIGH_BITS g.S.Scale.PI_HI c.self.inside.functions c.deref.result.now c.deref-2.result.now c.point.result
+    no_drift c.move_to.new.self
+is g c =
     let i = c.self.inside in
     let r = c.point.result in
     let near = c.point.ensures.neighbourhood in
-    let d = decided_each g.S.Scale.BITS g.S.Scale.LOW_BITS g.S.Scale.HIGH_BITS g.S.Scale.PI_LO g.S.Scale.PI_HI (scale g) i.word i.functions i.most i.point i.table.items
-        i.uppers.items i.lowers.items c.deref.result.now c.deref-2.result.now c.self.invariant c.deref.ensures.value c.deref-2.ensures.value c.move_to.new.self c.self.view_is
-        c.args.x c.args.y c.move_to.ensures.point r near (ap (λ (b : Ball). b.x) c.point.ensures.ball) (ap (λ (b : Ball). b.y) c.point.ensures.ball)
-        no_drift (no_drift_is g.S.Scale.PI_HI r c.point.ensures.radius near.angles.positive) in
-    (λ t. d.0 (c.each_reaches.ensures.0 t), λ e. c.each_reaches.ensures.1 (d.1 e))
-
-clear : (g : given.Over) (c : goal.After-each_reaches g) → IsTrue c.each_reaches.result → EachFunction c.move_to.new.self.word (IsClearIn (ball_of c.point.result) (slack g.S.Scale.LOW_BITS))
-clear g c t =
-    let i = c.self.inside in
-    let r = c.point.result in
-    let near = c.point.ensures.neighbourhood in
-    clear_of_each g.S.Scale.BITS g.S.Scale.LOW_BITS g.S.Scale.HIGH_BITS g.S.Scale.PI_LO g.S.Scale.PI_HI (scale g) i.word i.functions i.most i.point i.table.items
-    i.uppers.items i.lowers.items c.deref.result.now c.deref-2.result.now c.self.invariant c.deref.ensures.value c.deref-2.ensures.value c.move_to.new.self c.self.view_is
-    c.args.x c.args.y c.move_to.ensures.point r near (ap (λ (b : Ball). b.x) c.point.ensures.ball) (ap (λ (b : Ball). b.y) c.point.ensures.ball)
-    no_drift (no_drift_is g.S.Scale.PI_HI r c.point.ensures.radius near.angles.positive) (c.each_reaches.ensures.0 t)
-
-found : (g : given.Over) (c : goal.After-each_reaches g) → EachFunction c.move_to.new.self.word (IsClearIn (ball_of c.point.result) (slack g.S.Scale.HIGH_BITS)) → IsTrue c.each_reaches.result
-found g c e =
-    let i = c.self.inside in
-    let r = c.point.result in
-    let near = c.point.ensures.neighbourhood in
-    c.each_reaches.ensures.1
-    (each_of_clear g.S.Scale.BITS g.S.Scale.LOW_BITS g.S.Scale.HIGH_BITS g.S.Scale.PI_LO g.S.Scale.PI_HI (scale g) i.word i.functions i.most i.point i.table.items
-    i.uppers.items i.lowers.items c.deref.result.now c.deref-2.result.now c.self.invariant c.deref.ensures.value c.deref-2.ensures.value c.move_to.new.self c.self.view_is
-    c.args.x c.args.y c.move_to.ensures.point r near (ap (λ (b : Ball). b.x) c.point.ensures.ball) (ap (λ (b : Ball). b.y) c.point.ensures.ball)
-    no_drift (no_drift_is g.S.Scale.PI_HI r c.point.ensures.radius near.angles.positive) e)
+    each_test g.S.Scale.BITS g.S.Scale.LOW_BITS g.S.Scale.HIGH_BITS g.S.Scale.PI_LO g.S.Scale.PI_HI (scale g) i.word i.functions i.most i.point i.table.items
+    i.uppers.items i.lowers.items c.deref.result.now c.deref-2.result.now c.self.invariant c.deref.ensures.value c.deref-2.ensures.value c.move_to.new.self
+    c.self.view_is c.args.x c.args.y c.move_to.ensures.point r near (ap (λ (b : Ball). b.x) c.point.ensures.ball) (ap (λ (b : Ball). b.y) c.point.ensures.ball)
+    no_drift (no_drift_is g.S.Scale.PI_HI r c.point.ensures.radius near.angles.positive)
 
 pub returns-clause-decided : goal.returns-clause-decided
-returns-clause-decided g c = decided g c
+returns-clause-decided g c = (λ t. (is g c).decided.0 (c.each_reaches.ensures.0 t), λ e. c.each_reaches.ensures.1 ((is g c).decided.1 e))
 
 pub returns-clause-clear : goal.returns-clause-clear
 returns-clause-clear g c =
     λ passed. clear_at_point c.args.self.now.word (value c.args.x) (value c.args.y) (slack g.S.Scale.LOW_BITS)
-    (subst₂ (λ w b. EachFunction w (IsClearIn b (slack g.S.Scale.LOW_BITS))) c.move_to.ensures.word c.point.ensures.ball (clear g c passed))
+    (subst₂ (λ w b. EachFunction w (IsClearIn b (slack g.S.Scale.LOW_BITS))) c.move_to.ensures.word c.point.ensures.ball
+    ((is g c).clear (c.each_reaches.ensures.0 passed)))
 
 pub returns-clause-found : goal.returns-clause-found
 returns-clause-found g c =
-    λ is. found g c (subst₂ (λ w b. EachFunction w (IsClearIn b (slack g.S.Scale.HIGH_BITS))) (sym c.move_to.ensures.word) (sym c.point.ensures.ball)
-    (clear_in_point c.args.self.now.word (value c.args.x) (value c.args.y) (slack g.S.Scale.HIGH_BITS) is))
+    λ clear. c.each_reaches.ensures.1
+    ((is g c).found (subst₂ (λ w b. EachFunction w (IsClearIn b (slack g.S.Scale.HIGH_BITS))) (sym c.move_to.ensures.word) (sym c.point.ensures.ball)
+    (clear_in_point c.args.self.now.word (value c.args.x) (value c.args.y) (slack g.S.Scale.HIGH_BITS) clear)))
 
 pub returns-clause-corridor : goal.returns-clause-corridor
 returns-clause-corridor g c =
-    λ passed. clear_at_point_gives_corridor_lem c.args.self.now.word (value c.args.x) (value c.args.y) (slack g.S.Scale.LOW_BITS) (slack_positive g.S.Scale.LOW_BITS)
-    (clear_at_point c.args.self.now.word (value c.args.x) (value c.args.y) (slack g.S.Scale.LOW_BITS)
-    (subst₂ (λ w b. EachFunction w (IsClearIn b (slack g.S.Scale.LOW_BITS))) c.move_to.ensures.word c.point.ensures.ball (clear g c passed)))
+    λ passed. clear_at_point_gives_corridor_lem c.args.self.now.word (value c.args.x) (value c.args.y) (slack g.S.Scale.LOW_BITS)
+    (slack_positive g.S.Scale.LOW_BITS) (returns-clause-clear g c passed)
