@@ -16,6 +16,8 @@ use Rattle.rat_core.specs.Written.{Written, value}
 use Rattle.rat_core.proofs.Laws.{over_le}
 use Rattle.rat_core.proofs.Order.{over_nonneg}
 use Rattle.edge_words.specs.Letters.{IsPlace}
+use Rattle.edge_words.specs.Stable.{IsStable}
+use Rattle.edge_words.specs.Word.{IsWord}
 use Rattle.exp_sums.specs.declared.direction.Dir.{Dir}
 use Rattle.exp_sums.specs.Terms.{dir_cmp}
 use Rattle.exp_sums.specs.FormalPoint.{FormalPoint}
@@ -32,7 +34,7 @@ use Rattle.gradient_bounds.specs.declared.neighbourhood.Neighbourhood.{Neighbour
 use Rattle.gradient_bounds.specs.declared.sine_low.SineLow.{SineLow}
 use Rattle.gradient_bounds.specs.Clear.{slack}
 use Rattle.gradient_bounds.specs.Corridor.{EachFunction, SomeFunction}
-use Rattle.gradient_bounds.specs.Decision.{AreNumbers, needed, EachReaches, SomeFallsBelow, difference}
+use Rattle.gradient_bounds.specs.Decision.{AreNumbers, IsMost, needed, EachReaches, SomeFallsBelow}
 use Rattle.gradient_bounds.specs.Kept.{IsFilledAt, IsSmallEntry, IsNumberOf, AreUppers, AreLowers, IsPrepared}
 use Rattle.gradient_bounds.specs.Neighbourhood.{IsNeighbourhood, ball_of, IsClearIn, IsShutIn}
 use Rattle.gradient_bounds.specs.Table.{PreparedWord, IsDirOfHeight, IsTableOf, IsLowAt, number_in, bounds_in, centre_of, LowerEndReaches, UpperEndFalls}
@@ -289,3 +291,22 @@ module _ (bits : ℕ) (w u : List ℕ) (m : Most) (p : Option (Written × Writte
       let lower = lower_number l b (place_in l place) b_is in
       bound_of (λ w v. lower_height v w l) b z (λ v shift. lower_listed w table h.directions v shift l (place_in l place)) (omega (arith, lower.small)) lower.is
       (λ v shift. z_is ∙ ap (λ f. pos (weight f)) (f_is v shift)) (subst (λ y. y ≤ℤ pos 16384) (sym z_is) (pos_le (weight f) 16384 light))
+
+-- ---- a new one
+
+pub prepared_from : (bits : ℕ) (w v u f : List ℕ) (m : Most) (table : List SineLow) (us ls us' ls' : List ℤ) → v ≡ w → u ≡ w → f ≡ u → IsWord u → IsStable w
+    → IsMost f m → IsTableOf f table → All IsSmallEntry table → AreUppers f table us' → AreLowers f table ls' → us ≡ us' → ls ≡ ls'
+    → IsPrepared bits v f m None table us ls
+prepared_from bits w v u f m table us ls us' ls' v_is u_is f_is word stable most directions small uppers lowers us_is ls_is =
+    let same : f ≡ v = f_is ∙ u_is ∙ sym v_is in
+    record {
+      word = subst IsWord (u_is ∙ sym v_is) word;
+      stable = subst IsStable (sym v_is) stable;
+      same_word = same;
+      most = subst (λ x. IsMost x m) same most;
+      directions = subst (λ x. IsTableOf x table) same directions;
+      small = small;
+      filled = tt;
+      uppers = subst₂ (λ x a. AreUppers x table a) same (sym us_is) uppers;
+      lowers = subst₂ (λ x a. AreLowers x table a) same (sym ls_is) lowers;
+    }
