@@ -117,78 +117,10 @@ drift_near bits L H D r w p d s h pi =
 
 -- ---- sizes
 
--- pi in units, reach and radius, and their product
-pub record IsDividend (H R p : ℤ) : Type 0 where
-  pub pi : FitsSigned w128 H
-  pub reach : FitsSigned w128 R
-  pub radius : FitsSigned w128 p
-  pub factor : FitsSigned w128 (R *ℤ p)
-  pub product : FitsSigned w128 (H *ℤ (R *ℤ p))
-  pub size : unsigned_abs (H *ℤ (R *ℤ p)) ≤ 2 ^ 90
-
-pub dividend_of : (H R p : ℤ) (r w : ℕ) → unsigned_abs H ≤ 2 ^ 62 → R ≡ pos r → r ≤ 260 * w → w ≤ 16384 → pos 0 ≤ℤ p → p ≤ℤ pos 1 → IsDividend H R p
-dividend_of H R p r w H_small R_is slow light low high =
-    let R_small : unsigned_abs R ≤ 2 ^ 23 = omega (arith, ints) in
-    let p_small : unsigned_abs p ≤ 1 = omega (arith, ints) in
-    let factor : unsigned_abs (R *ℤ p) ≤ 2 ^ 23 * 1 = product_size R p (2 ^ 23) 1 R_small p_small in
-    let factor_small : unsigned_abs (R *ℤ p) ≤ 2 ^ 23 = omega arith in
-    let product : unsigned_abs (H *ℤ (R *ℤ p)) ≤ 2 ^ 62 * 2 ^ 23 = product_size H (R *ℤ p) (2 ^ 62) (2 ^ 23) H_small factor_small in
-    let size : unsigned_abs (H *ℤ (R *ℤ p)) ≤ 2 ^ 90 = omega arith in
-    record {
-      pi = fits_128 H (omega arith);
-      reach = fits_128 R (omega arith);
-      radius = fits_128 p (omega arith);
-      factor = fits_128 (R *ℤ p)
-          (omega arith);
-      product = fits_128 (H *ℤ (R *ℤ p)) (omega arith);
-      size = size;
-    }
-
--- the reach as the machine converts it
-pub reach_kept : (z from : ℤ) (r w : ℕ) → z ≡ pos r → from ≡ to_z w64 (of_z w64 z) → r ≤ 260 * w → w ≤ 16384 → from ≡ pos r
-reach_kept z from r w z_is from_is slow light =
-    let fits : FitsSigned w64 (pos r) = fits_signed_from_abs w64 (pos r) (omega arith) in
-    from_is ∙ ap (λ t. to_z w64 (of_z w64 t)) z_is ∙ to_z-of_z w64 (pos r) fits
-
--- the same for the numbers of a scale
-pub dividend_at : (bits : ℕ) (L P H z from p : ℤ) (f : FormalPoint) → bits ≤ 60
-    → FromSomeOn (λ n. Encloses bits (record { lo = L; hi = P }) (pi_sum n)) → P ≡ L +ℤ pos 1 → H ≡ P → z ≡ pos (reach f)
-    → from ≡ to_z w64 (of_z w64 z) → IsWithinFunctionLimits f → pos 0 ≤ℤ p → p ≤ℤ pos 1 → IsDividend H from p
-dividend_at bits L P H z from p f room pi unit H_is z_is from_is limits low high =
-    let size : unsigned_abs H ≤ 2 ^ 62 = subst (λ t. unsigned_abs t ≤ 2 ^ 62) (sym H_is) (pi_size bits L P room pi unit).1 in
-    dividend_of H from p (reach f) (weight f) size (reach_kept z from (reach f)
-    (weight f) z_is from_is limits.slow limits.light) limits.slow limits.light low high
-
--- a drift and a margin, and their sum
-pub record IsSum (D M : ℤ) : Type 0 where
-  pub drift : FitsSigned w128 D
-  pub margin : FitsSigned w128 M
-  pub sum : FitsSigned w128 (D +ℤ M)
-  pub size : unsigned_abs (D +ℤ M) ≤ 2 ^ 100
-
-pub sum_fits : (H D M : ℤ) (bits low r w : ℕ) (p den : ℤ) → bits ≤ 60 → unsigned_abs H ≤ 2 ^ 62 → r ≤ 260 * w → w ≤ 16384 → pos 0 ≤ℤ p → p ≤ℤ pos 1
-    → pos 1 ≤ℤ den → IsCeiling D (H *ℤ (pos r *ℤ p)) den → M ≡ pos (2 ^ (bits - low) * (1 + w)) → IsSum D M
-sum_fits H D M bits low r w p den room H_small slow light at_least at_most positive ceiling M_is =
-    let dividend = (dividend_of H (pos r) p r w H_small refl slow light at_least at_most).size in
-    let D_small : unsigned_abs D ≤ 2 ^ 90 = rounded_not_larger true D (H *ℤ (pos r *ℤ p)) den (2 ^ 90) positive ceiling dividend in
-    let below : bits - low ≤ 60 = omega arith in
-    let units : 2 ^ (bits - low) ≤ 2 ^ 60 = pow_mono below in
-    let factor : 1 + w ≤ 2 ^ 15 = omega arith in
-    let all : 2 ^ (bits - low) * (1 + w) ≤ 2 ^ 60 * 2 ^ 15 = mul-le-mul units factor in
-    let M_small : unsigned_abs M ≤ 2 ^ 90 = subst (λ z. unsigned_abs z ≤ 2 ^ 90) (sym M_is) (smaller (2 ^ (bits - low) * (1 + w)) all) in
-    let size : unsigned_abs (D +ℤ M) ≤ 2 ^ 100 = added D M D_small M_small in
-    record { drift = fits_128 D (omega arith); margin = fits_128 M (omega arith); sum = fits_128 (D +ℤ M) (omega arith); size = size }
-  where
-    smaller : (n : ℕ) → n ≤ 2 ^ 60 * 2 ^ 15 → unsigned_abs (pos n) ≤ 2 ^ 90
-    smaller n h = omega arith
-
-    added : (a b : ℤ) → unsigned_abs a ≤ 2 ^ 90 → unsigned_abs b ≤ 2 ^ 90 → unsigned_abs (a +ℤ b) ≤ 2 ^ 100
-    added a b h k = omega (arith, ints)
-
 -- ---- thresholds
 
--- one unit of the wider slack is 4,096 of the narrower: more than the room for rounding, and the width
-wide_slack_exceeds : (bits low high w : ℕ) → high + 12 ≤ low → low ≤ bits → 260 * w + 1 + 2 ^ (bits - low) * (1 + w) + 256 * w ≤ 2 ^ (bits - high) * (1 + w)
+-- one unit of the wider slack is 4,096 of the narrower: more than the room for rounding, and twice the error of a number
+wide_slack_exceeds : (bits low high w : ℕ) → high + 12 ≤ low → low ≤ bits → 260 * w + 1 + 2 ^ (bits - low) * (1 + w) + 512 * w ≤ 2 ^ (bits - high) * (1 + w)
 wide_slack_exceeds bits low high w h k =
     let more : 2 ^ (bits - low + 12) ≤ 2 ^ (bits - high) = pow_mono (omega arith) in
     let split : 2 ^ (bits - low + 12) ≡ 2 ^ (bits - low) * 2 ^ 12 = pow-add 2 (bits - low) 12 in
@@ -198,8 +130,8 @@ wide_slack_exceeds bits low high w h k =
     omega arith
 
 -- a margin in units
-margin_units : (bits low w : ℕ) → low ≤ bits → slack low *ℚ whole (1 + w) *ℚ whole (2 ^ bits) ≡ whole (2 ^ (bits - low) * (1 + w))
-margin_units bits low w h = slack_units bits low (whole (1 + w)) h ∙ sym (int-mul (pos (2 ^ (bits - low))) (pos (1 + w)))
+margin_in_units : (bits low w : ℕ) → low ≤ bits → slack low *ℚ whole (1 + w) *ℚ whole (2 ^ bits) ≡ whole (2 ^ (bits - low) * (1 + w))
+margin_in_units bits low w h = slack_units bits low (whole (1 + w)) h ∙ sym (int-mul (pos (2 ^ (bits - low))) (pos (1 + w)))
 
 -- the drift and the margin together are enough ..
 pub threshold_enough : (bits low : ℕ) (L H D M : ℤ) (f : FormalPoint) (p : ℤ) (d : ℕ) → low ≤ bits → M ≡ pos (2 ^ (bits - low) * (1 + weight f))
@@ -213,33 +145,33 @@ threshold_enough bits low L H D M f p d room M_is h pi = onward at pi
         let a = pi_sum n *ℚ (whole (reach f) *ℚ (p ÷ d)) in
         let m = slack low *ℚ whole (1 + weight f) in
         let drift : a *ℚ u ≤ℚ D ÷ 1 = drift_at_most bits L H D (reach f) (weight f) p d (pi_sum n) h e in
-        let margin : m *ℚ u ≤ℚ M ÷ 1 = at_most_of_same ℚ_ordered (margin_units bits low (weight f) room ∙ ap (λ z. z ÷ 1) (sym M_is)) in
+        let margin : m *ℚ u ≤ℚ M ÷ 1 = at_most_of_same ℚ_ordered (margin_in_units bits low (weight f) room ∙ ap (λ z. z ÷ 1) (sym M_is)) in
         subst (λ t. (a +ℚ m) *ℚ u ≤ℚ t) (sym (int-add D M))
         (le₅ ℚ_ordered (λ a m u D M. (a ⊞ m) ⊠ u) (λ a m u D M. D ⊞ M) (λ a m u D M. le (a ⊠ u) D ∷ le (m ⊠ u) M ∷ []) refl a m u (D ÷ 1) (M ÷ 1)
         (drift, (margin, tt)))
 
--- .. and so little that what the wider slack asks for exceeds them by the width
+-- .. and so little that what the wider slack asks for exceeds them by twice the error of a number
 pub threshold_little : (bits low high : ℕ) (L H D M : ℤ) (f : FormalPoint) (p : ℤ) (d : ℕ) → high + 12 ≤ low → low ≤ bits
     → M ≡ pos (2 ^ (bits - low) * (1 + weight f)) → IsDrift L H D (reach f) (weight f) p d
     → FromSomeOn (λ n. Encloses bits (record { lo = L; hi = H }) (pi_sum n))
-    → FromSomeOn (λ n. (D +ℤ M +ℤ pos (256 * weight f)) ÷ 1 ≤ℚ threshold_of n (p ÷ d) (slack high) f *ℚ whole (2 ^ bits))
+    → FromSomeOn (λ n. (D +ℤ M +ℤ pos (512 * weight f)) ÷ 1 ≤ℚ threshold_of n (p ÷ d) (slack high) f *ℚ whole (2 ^ bits))
 threshold_little bits low high L H D M f p d apart room M_is h pi = onward at pi
   where
     at : (n : ℕ) → Encloses bits (record { lo = L; hi = H }) (pi_sum n)
-        → (D +ℤ M +ℤ pos (256 * weight f)) ÷ 1 ≤ℚ threshold_of n (p ÷ d) (slack high) f *ℚ whole (2 ^ bits)
+        → (D +ℤ M +ℤ pos (512 * weight f)) ÷ 1 ≤ℚ threshold_of n (p ÷ d) (slack high) f *ℚ whole (2 ^ bits)
     at n e =
         let w = weight f in
         let u = whole (2 ^ bits) in
         let a = pi_sum n *ℚ (whole (reach f) *ℚ (p ÷ d)) in
         let m = slack high *ℚ whole (1 + w) in
         let near : D ÷ 1 ≤ℚ a *ℚ u +ℚ whole (260 * w + 1) = drift_near bits L H D (reach f) w p d (pi_sum n) h e in
-        let wide : whole (260 * w + 1) +ℚ (M ÷ 1 +ℚ whole (256 * w)) ≤ℚ m *ℚ u =
-        subst₂ ◌≤ℚ◌ (added (260 * w + 1) (2 ^ (bits - low) * (1 + w)) (256 * w)
-        ∙ ap (λ z. whole (260 * w + 1) +ℚ (z ÷ 1 +ℚ whole (256 * w))) (sym M_is)) (sym (margin_units bits high w (omega arith)))
-        (whole_le (260 * w + 1 + 2 ^ (bits - low) * (1 + w) + 256 * w) (2 ^ (bits - high) * (1 + w)) (wide_slack_exceeds bits low high w apart room))
+        let wide : whole (260 * w + 1) +ℚ (M ÷ 1 +ℚ whole (512 * w)) ≤ℚ m *ℚ u =
+        subst₂ ◌≤ℚ◌ (added (260 * w + 1) (2 ^ (bits - low) * (1 + w)) (512 * w)
+        ∙ ap (λ z. whole (260 * w + 1) +ℚ (z ÷ 1 +ℚ whole (512 * w))) (sym M_is)) (sym (margin_in_units bits high w (omega arith)))
+        (whole_le (260 * w + 1 + 2 ^ (bits - low) * (1 + w) + 512 * w) (2 ^ (bits - high) * (1 + w)) (wide_slack_exceeds bits low high w apart room))
         in
-        subst (λ t. t ≤ℚ (a +ℚ m) *ℚ u) (sym (int-add (D +ℤ M) (pos (256 * w)) ∙ ap (λ t. t +ℚ whole (256 * w)) (int-add D M)))
-        (sum_below (D ÷ 1) (M ÷ 1) (whole (256 * w)) (whole (260 * w + 1)) a m u near wide)
+        subst (λ t. t ≤ℚ (a +ℚ m) *ℚ u) (sym (int-add (D +ℤ M) (pos (512 * w)) ∙ ap (λ t. t +ℚ whole (512 * w)) (int-add D M)))
+        (sum_below (D ÷ 1) (M ÷ 1) (whole (512 * w)) (whole (260 * w + 1)) a m u near wide)
       where
         added : (x y z : ℕ) → whole (x + y + z) ≡ whole x +ℚ (whole y +ℚ whole z)
         added x y z = int-add (pos (x + y)) (pos z) ∙ ap (λ t. t +ℚ whole z) (int-add (pos x) (pos y)) ∙ add_assoc (whole x) (whole y) (whole z)

@@ -1,9 +1,9 @@
 -- Margins: a slack above 0 gives a corridor at a point, and a margin in units.
-use Rattle.std.proofs.Common.{◌≡◌, refl, sym, ap, ◌∙◌, subst₂, ℕ, ◌+◌, ◌-◌, ◌*◌, ◌^◌, ◌≤◌, ℤ, pos, ◌+ℤ◌, ◌*ℤ◌, FitsSigned, to_z, of_z, [], ◌∷◌, arith}
+use Rattle.std.proofs.Common.{◌≡◌, refl, sym, ap, ◌∙◌, subst₂, ℕ, ◌+◌, ◌-◌, ◌*◌, ◌^◌, ◌≤◌, ℤ, pos, ◌+ℤ◌, ◌*ℤ◌, ◌≤ℤ◌, unsigned_abs, FitsSigned, [], ◌∷◌, arith}
 use Rattle.std.proofs.Common.{mul-le-mul}
 use Rattle.std.proofs.Math.Pow.{pow_mono}
-use Rattle.std.proofs.lemmas.Int.{to_z-of_z, fits_signed_from_abs}
-use Rattle.std.specs.Int.{w64, w128}
+use Rattle.std.proofs.lemmas.Int.{ints, fits_signed_from_abs}
+use Rattle.std.specs.Int.{w128}
 use Rattle.std.proofs.lemmas.Nat.{pow-add, pow_pos}
 use Rattle.ring_solver.specs.Expression.{num, ◌⊠◌}
 use Rattle.ring_solver.specs.Ordered.{times}
@@ -83,9 +83,9 @@ margin_exactly bits low w room light =
       is = refl;
     }
 
-pub margin_at : (bits low w : ℕ) (u z from : ℤ) → bits ≤ 60 → w ≤ 16384 → u ≡ pos (2 ^ (bits - low)) → z ≡ pos w → from ≡ to_z w64 (of_z w64 z)
-    → IsMargin bits low w u from
-margin_at bits low w u z from room light u_is z_is from_is =
-    let fits : FitsSigned w64 (pos w) = fits_signed_from_abs w64 (pos w) (omega arith) in
-    let whole_is : from ≡ pos w = from_is ∙ ap (λ t. to_z w64 (of_z w64 t)) z_is ∙ to_z-of_z w64 (pos w) fits in
-    subst₂ (IsMargin bits low w) (sym u_is) (sym whole_is) (margin_exactly bits low w room light)
+pub margin_at : (bits low : ℕ) (u z from : ℤ) → bits ≤ 60 → pos 0 ≤ℤ z → z ≤ℤ pos 16384 → u ≡ pos (2 ^ (bits - low)) → from ≡ z
+    → IsMargin bits low (unsigned_abs z) u from
+margin_at bits low u z from room at_least at_most u_is from_is =
+    let size : unsigned_abs z ≤ 16384 = omega (arith, ints) in
+    let whole_is : z ≡ pos (unsigned_abs z) = omega (arith, ints) in
+    subst₂ (IsMargin bits low (unsigned_abs z)) (sym u_is) (sym (from_is ∙ whole_is)) (margin_exactly bits low (unsigned_abs z) room size)

@@ -68,76 +68,71 @@ turned_narrow lo hi w h = omega (arith, ints)
 -- what is said of a threshold t and of an interval for the value of f at the centre of a ball
 pub record IsMeasured (bits low high : ℕ) (b : Ball) (f : FormalPoint) (t : ℤ) (r : Ends) : Type 0 where
   pub enough : FromSomeOn (λ n. threshold_of n b.radius (slack low) f *ℚ whole (2 ^ bits) ≤ℚ t ÷ 1)
-  pub little : FromSomeOn (λ n. (t +ℤ pos (256 * weight f)) ÷ 1 ≤ℚ threshold_of n b.radius (slack high) f *ℚ whole (2 ^ bits))
+  pub little : FromSomeOn (λ n. (t +ℤ pos (512 * weight f)) ÷ 1 ≤ℚ threshold_of n b.radius (slack high) f *ℚ whole (2 ^ bits))
   pub encloses : FromSomeOn (λ n. Encloses bits r (value_at n f b.x b.y))
-  pub narrow : r.hi ≤ℤ (r.lo +ℤ pos (256 * weight f))
-
--- the interval is that of the terms
-pub measured : (bits low high : ℕ) (b : Ball) (f : FormalPoint) (t : ℤ) (r : Ends) (ts : List Term) → ts ≡ terms f
-    → FromSomeOn (λ n. threshold_of n b.radius (slack low) f *ℚ whole (2 ^ bits) ≤ℚ t ÷ 1)
-    → FromSomeOn (λ n. (t +ℤ pos (256 * weight f)) ÷ 1 ≤ℚ threshold_of n b.radius (slack high) f *ℚ whole (2 ^ bits))
-    → FromSomeOn (λ n. Encloses bits r (value_of_terms n ts b.x b.y)) → r.hi ≤ℤ (r.lo +ℤ pos (256 * terms_weight ts)) → IsMeasured bits low high b f t r
-measured bits low high b f t r ts ts_is enough little encloses narrow =
-    record {
-      enough = enough;
-      little = little;
-      encloses = subst (λ us. FromSomeOn (λ n. Encloses bits r (value_of_terms n us b.x b.y))) ts_is encloses;
-      narrow = subst (λ us. r.hi ≤ℤ (r.lo +ℤ pos (256 * terms_weight us))) ts_is narrow;
-    }
+  pub narrow : r.hi ≤ℤ (r.lo +ℤ pos (512 * weight f))
 
 module _ (bits low high : ℕ) (b : Ball) (f : FormalPoint) (t : ℤ) (r : Ends) (h : IsMeasured bits low high b f t r) where
-  -- a function passes only where it is clear with the narrower slack ..
-  pub passes_clear : IsTrue (is_at_most t r.lo) → IsClearIn b (slack low) f
-  passes_clear passed =
-      let reach : t ≤ℤ r.lo = le_z_yes (subst T (sym passed) tt) in
+  -- a function whose lower end reaches the threshold is clear with the narrower slack ..
+  pub reached_clear : t ≤ℤ r.lo → IsClearIn b (slack low) f
+  reached_clear reach =
       onward_both (λ n e k. lower_end_reaches bits r (value_at n f b.x b.y) e (threshold_of n b.radius (slack low) f) t k reach) h.encloses h.enough
 
-  -- .. and where it is clear with the wider one
-  pub clear_passes : IsClearIn b (slack high) f → IsTrue (is_at_most t r.lo)
-  clear_passes clear =
-      is_true (is_at_most t r.lo) (seen (somewhere (onward_both (λ n e k. (e, k)) h.encloses (onward_both (λ n l k. (l, k)) h.little clear)))).le
+  -- .. and one that is clear with the wider one has such a lower end
+  pub clear_reached : IsClearIn b (slack high) f → t ≤ℤ r.lo
+  clear_reached clear = seen (somewhere (onward_both (λ n e k. (e, k)) h.encloses (onward_both (λ n l k. (l, k)) h.little clear)))
     where
       seen : (n : ℕ) × (Encloses bits r (value_at n f b.x b.y)
-          × (((t +ℤ pos (256 * weight f)) ÷ 1 ≤ℚ threshold_of n b.radius (slack high) f *ℚ whole (2 ^ bits))
+          × (((t +ℤ pos (512 * weight f)) ÷ 1 ≤ℚ threshold_of n b.radius (slack high) f *ℚ whole (2 ^ bits))
           × (threshold_of n b.radius (slack high) f ≤ℚ value_at n f b.x b.y))) → t ≤ℤ r.lo
-      seen (n, (e, (l, k))) = reached_is_seen bits r (value_at n f b.x b.y) e (threshold_of n b.radius (slack high) f) t (256 * weight f) l h.narrow k
+      seen (n, (e, (l, k))) = reached_is_seen bits r (value_at n f b.x b.y) e (threshold_of n b.radius (slack high) f) t (512 * weight f) l h.narrow k
 
-  -- a function is shut only with the narrower slack ..
-  pub passes_shut : IsTrue (is_at_most r.hi (pos 0 -ℤ t)) → IsShutIn b (slack low) f
-  passes_shut passed =
-      let reach : t ≤ℤ neg_ℤ r.hi = below_zero r.hi t (le_z_yes (subst T (sym passed) tt)) in
+  -- a function whose upper end lies as far below 0 is shut with the narrower slack ..
+  pub reached_shut : t ≤ℤ neg_ℤ r.hi → IsShutIn b (slack low) f
+  reached_shut reach =
       onward_both
       (λ n e k. turned_le (threshold_of n b.radius (slack low) f) (value_at n f b.x b.y)
       (lower_end_reaches bits (turned r) (neg_ℚ (value_at n f b.x b.y)) (turned_encloses bits r (value_at n f b.x b.y) e)
       (threshold_of n b.radius (slack low) f) t k reach))
       h.encloses h.enough
     where
-      below_zero : (hi t : ℤ) → hi ≤ℤ (pos 0 -ℤ t) → t ≤ℤ neg_ℤ hi
-      below_zero hi t k = omega (arith, ints)
-
       turned_le : (a v : ℚ) → a ≤ℚ neg_ℚ v → v ≤ℚ neg_ℚ a
       turned_le a v k = le₂ ℚ_ordered (λ a v. v) (λ a v. opp a) (λ a v. le a (opp v) ∷ []) refl a v (k, tt)
 
-  -- .. and where it is shut with the wider one
-  pub shut_passes : IsShutIn b (slack high) f → IsTrue (is_at_most r.hi (pos 0 -ℤ t))
-  shut_passes shut =
-      is_true (is_at_most r.hi (pos 0 -ℤ t)) (below_zero r.hi t
-      (seen (somewhere (onward_both (λ n e k. (e, k)) h.encloses (onward_both (λ n l k. (l, k)) h.little shut))))).le
+  -- .. and one that is shut with the wider one has such an upper end
+  pub shut_reached : IsShutIn b (slack high) f → t ≤ℤ neg_ℤ r.hi
+  shut_reached shut = seen (somewhere (onward_both (λ n e k. (e, k)) h.encloses (onward_both (λ n l k. (l, k)) h.little shut)))
     where
       turned_le : (a v : ℚ) → v ≤ℚ neg_ℚ a → a ≤ℚ neg_ℚ v
       turned_le a v k = le₂ ℚ_ordered (λ a v. a) (λ a v. opp v) (λ a v. le v (opp a) ∷ []) refl a v (k, tt)
 
-      below_zero : (hi t : ℤ) → t ≤ℤ neg_ℤ hi → hi ≤ℤ (pos 0 -ℤ t)
-      below_zero hi t k = omega (arith, ints)
-
       seen : (n : ℕ) × (Encloses bits r (value_at n f b.x b.y)
-          × (((t +ℤ pos (256 * weight f)) ÷ 1 ≤ℚ threshold_of n b.radius (slack high) f *ℚ whole (2 ^ bits))
+          × (((t +ℤ pos (512 * weight f)) ÷ 1 ≤ℚ threshold_of n b.radius (slack high) f *ℚ whole (2 ^ bits))
           × (value_at n f b.x b.y ≤ℚ neg_ℚ (threshold_of n b.radius (slack high) f)))) → t ≤ℤ neg_ℤ r.hi
       seen (n, (e, (l, k))) =
           let v = value_at n f b.x b.y in
           let a = threshold_of n b.radius (slack high) f in
-          reached_is_seen bits (turned r) (neg_ℚ v) (turned_encloses bits r v e) a t (256 * weight f) l
-          (turned_narrow r.lo r.hi (256 * weight f) h.narrow) (turned_le a v k)
+          reached_is_seen bits (turned r) (neg_ℚ v) (turned_encloses bits r v e) a t (512 * weight f) l
+          (turned_narrow r.lo r.hi (512 * weight f) h.narrow) (turned_le a v k)
+
+  -- the same for the machine's comparisons
+  pub passes_clear : IsTrue (is_at_most t r.lo) → IsClearIn b (slack low) f
+  passes_clear passed = reached_clear (le_z_yes (subst T (sym passed) tt))
+
+  pub clear_passes : IsClearIn b (slack high) f → IsTrue (is_at_most t r.lo)
+  clear_passes clear = is_true (is_at_most t r.lo) (clear_reached clear).le
+
+  pub passes_shut : IsTrue (is_at_most r.hi (pos 0 -ℤ t)) → IsShutIn b (slack low) f
+  passes_shut passed = reached_shut (below_zero r.hi t (le_z_yes (subst T (sym passed) tt)))
+    where
+      below_zero : (hi t : ℤ) → hi ≤ℤ (pos 0 -ℤ t) → t ≤ℤ neg_ℤ hi
+      below_zero hi t k = omega (arith, ints)
+
+  pub shut_passes : IsShutIn b (slack high) f → IsTrue (is_at_most r.hi (pos 0 -ℤ t))
+  shut_passes shut = is_true (is_at_most r.hi (pos 0 -ℤ t)) (below_zero r.hi t (shut_reached shut)).le
+    where
+      below_zero : (hi t : ℤ) → t ≤ℤ neg_ℤ hi → hi ≤ℤ (pos 0 -ℤ t)
+      below_zero hi t k = omega (arith, ints)
 
 -- the negative of a threshold fits its type
 pub negative_fits : (t : ℤ) → unsigned_abs t ≤ 2 ^ 100 → FitsSigned w128 (pos 0 -ℤ t)

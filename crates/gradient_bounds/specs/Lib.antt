@@ -4,5 +4,7 @@ pub mod Slacks
 pub mod Angles
 pub mod Neighbourhood
 pub mod Kept
+pub mod Decision
 pub mod Faults
 pub mod Laws
+pub mod Table

@@ -1,17 +1,10 @@
-//! What a function has to reach at the centre of a neighbourhood, in units.
-ghost use Rattle.std.specs.Prelude.{◌≡◌, ◌+◌, ◌-◌, ◌*◌, ◌^◌, ◌≤◌, pos, ◌+ℤ◌, ◌*ℤ◌, unsigned_abs};
-ghost use Rattle.rat_core.specs.Fraction.{◌÷◌, whole, ◌*ℚ◌, ◌≤ℚ◌};
-ghost use Rattle.exp_sums.specs.Limits.{weight};
-ghost use Rattle.exp_sums.specs.Reach.{reach};
-ghost use Rattle.trig_meaning.specs.FromSomeOn.{FromSomeOn};
-ghost use Rattle.directed_fixed.specs.Rounding.{IsCeiling};
-ghost use Rattle.defining_functions.specs.Functions.{IsWithinFunctionLimits};
-ghost use Rattle.gradient_bounds.specs.Clear.{slack};
-ghost use Rattle.gradient_bounds.specs.Neighbourhood.{IsNeighbourhood, ball_of, threshold_of};
+//! What the difference of two heights' numbers has to reach at the centre of a neighbourhood, in units.
+ghost use Rattle.std.specs.Prelude.{◌≡◌, ◌-◌, ◌^◌, ◌≤◌, ◌≤ℤ◌, pos, unsigned_abs};
+ghost use Rattle.gradient_bounds.specs.Decision.{drift_units, margin_units, threshold_units, needed_units};
+ghost use Rattle.gradient_bounds.specs.Neighbourhood.{IsNeighbourhood};
 
 use crate::neighbourhood::Neighbourhood;
 use directed_fixed::{Direction, Scale, Up};
-use exp_sums::ExpSum;
 
 /// The narrower slack, in units.
 fn slack_units<S: Scale>() -> i128
@@ -20,35 +13,54 @@ fn slack_units<S: Scale>() -> i128
     1 << (S::BITS - S::LOW_BITS)
 }
 
-/// The margin of a function with the narrower slack, in units.
-fn margin<S: Scale>(function: &ExpSum) -> i128
-    requires { IsWithinFunctionLimits function.now }
-    ensures { result ≡ pos (2 ^ (S.BITS - S.LOW_BITS) * (1 + weight function.now)) }
+/// The margin at a weight with the narrower slack, in units.
+fn margin<S: Scale>(weight: i64) -> i128
+    requires at_least { pos 0 ≤ℤ weight }
+    requires at_most { weight ≤ℤ pos 16384 }
+    ensures { result ≡ margin_units S.BITS S.LOW_BITS (unsigned_abs weight) }
 {
-    slack_units::<S>() * (1 + i128::from(function.weight()))
+    slack_units::<S>() * (1 + i128::from(weight))
 }
 
-/// How far the value of a function may change from the centre to another point of the neighbourhood, in units: pi times the
-/// reach times the radius, rounded up.
-fn drift<S: Scale>(function: &ExpSum, neighbourhood: &Neighbourhood) -> i128
-    requires limits { IsWithinFunctionLimits function.now }
+/// How far the value of a function with this reach may change from the centre to another point of the neighbourhood, in
+/// units: pi times the reach times the radius, rounded up.
+fn drift<S: Scale>(reach: i64, neighbourhood: &Neighbourhood) -> i128
+    requires at_least { pos 0 ≤ℤ reach }
+    requires at_most { reach ≤ℤ pos 4259840 }
     requires neighbourhood { IsNeighbourhood neighbourhood.now }
-    ensures { IsCeiling result (S.PI_HI *ℤ (pos (reach function.now) *ℤ neighbourhood.now.radius)) neighbourhood.now.centre.den }
+    ensures { result ≡ drift_units S.PI_HI neighbourhood.now (unsigned_abs reach) }
 {
     Up::div(
-        S::PI_HI * (i128::from(function.reach()) * neighbourhood.radius),
+        S::PI_HI * (i128::from(reach) * neighbourhood.radius),
         neighbourhood.centre.den,
     )
 }
 
-/// The drift and the margin together. What is needed with the wider slack exceeds it by at least the width of a sum of
-/// sines.
-pub fn threshold<S: Scale>(function: &ExpSum, neighbourhood: &Neighbourhood) -> i128
-    requires limits { IsWithinFunctionLimits function.now }
+/// The drift and the margin together.
+pub fn threshold<S: Scale>(weight: i64, reach: i64, neighbourhood: &Neighbourhood) -> i128
+    requires weight_at_least { pos 0 ≤ℤ weight }
+    requires weight_at_most { weight ≤ℤ pos 16384 }
+    requires reach_at_least { pos 0 ≤ℤ reach }
+    requires reach_at_most { reach ≤ℤ pos 4259840 }
     requires neighbourhood { IsNeighbourhood neighbourhood.now }
-    ensures enough { FromSomeOn (λ n. threshold_of n (ball_of neighbourhood.now).radius (slack S.LOW_BITS) function.now *ℚ whole (2 ^ S.BITS) ≤ℚ result ÷ 1) }
-    ensures little { FromSomeOn (λ n. (result +ℤ pos (256 * weight function.now)) ÷ 1 ≤ℚ threshold_of n (ball_of neighbourhood.now).radius (slack S.HIGH_BITS) function.now *ℚ whole (2 ^ S.BITS)) }
+    ensures is { result ≡ threshold_units S.BITS S.LOW_BITS S.PI_HI neighbourhood.now (unsigned_abs weight) (unsigned_abs reach) }
+    ensures at_least { pos 1 ≤ℤ result }
     ensures size { unsigned_abs result ≤ 2 ^ 100 }
 {
-    drift::<S>(function, neighbourhood) + margin::<S>(function)
+    drift::<S>(reach, neighbourhood) + margin::<S>(weight)
+}
+
+/// These and 256 units for each unit of the weight: by so much the difference of two numbers may lie above the value of
+/// the function.
+pub fn needed<S: Scale>(weight: i64, reach: i64, neighbourhood: &Neighbourhood) -> i128
+    requires weight_at_least { pos 0 ≤ℤ weight }
+    requires weight_at_most { weight ≤ℤ pos 16384 }
+    requires reach_at_least { pos 0 ≤ℤ reach }
+    requires reach_at_most { reach ≤ℤ pos 4259840 }
+    requires neighbourhood { IsNeighbourhood neighbourhood.now }
+    ensures is { result ≡ needed_units S.BITS S.LOW_BITS S.PI_HI neighbourhood.now (unsigned_abs weight) (unsigned_abs reach) }
+    ensures at_least { pos 1 ≤ℤ result }
+    ensures size { unsigned_abs result ≤ 2 ^ 101 }
+{
+    256 * i128::from(weight) + threshold::<S>(weight, reach, neighbourhood)
 }

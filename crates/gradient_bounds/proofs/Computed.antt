@@ -1,0 +1,190 @@
+-- What a function needs, as the machine computes it: drift and margin fit their type, and are as they are defined.
+use Rattle.std.proofs.Common.{◌≡◌, sym, ap, subst, subst₂, ℕ, ◌+◌, ◌-◌, ◌*◌, ◌^◌, ◌<◌, ◌≤◌, ℤ, pos, negsuc, ◌+ℤ◌, ◌-ℤ◌, ◌*ℤ◌, neg_ℤ, ◌≤ℤ◌, unsigned_abs, FitsSigned, true, arith}
+use Rattle.std.proofs.Common.{mul-le-mul}
+use Rattle.std.proofs.Math.Pow.{pow_mono}
+use Rattle.std.proofs.lemmas.Int.{ints}
+use Rattle.std.proofs.lemmas.Nat.{pow_pos}
+use Rattle.std.specs.Int.{w128, int_div_euclid}
+use Rattle.trig_meaning.specs.PartialSums.{pi_sum}
+use Rattle.trig_meaning.specs.FromSomeOn.{FromSomeOn}
+use Rattle.directed_fixed.specs.Rounding.{IsFloor, IsCeiling}
+use Rattle.directed_fixed.specs.Ends.{Encloses}
+use Rattle.directed_fixed.proofs.Rounding.{product_size, floor_of_division, ceiling_of_floor, rounded_mono, rounded_at_least, rounded_not_larger}
+use Rattle.directed_fixed.proofs.PiSums.{pi_units, pi_size}
+use Rattle.gradient_bounds.specs.declared.neighbourhood.Neighbourhood.{Neighbourhood}
+use Rattle.gradient_bounds.specs.Neighbourhood.{IsNeighbourhood}
+use Rattle.gradient_bounds.specs.Decision.{rounded_up, drift_units, margin_units}
+use Rattle.gradient_bounds.proofs.Turning.{fits_128}
+
+-- ---- the drift
+
+-- pi in units, reach and radius, and their product
+pub record IsDividend (H R p : ℤ) : Type 0 where
+  pub pi : FitsSigned w128 H
+  pub reach : FitsSigned w128 R
+  pub radius : FitsSigned w128 p
+  pub factor : FitsSigned w128 (R *ℤ p)
+  pub product : FitsSigned w128 (H *ℤ (R *ℤ p))
+  pub size : unsigned_abs (H *ℤ (R *ℤ p)) ≤ 2 ^ 90
+
+dividend_of : (H R p : ℤ) → unsigned_abs H ≤ 2 ^ 62 → pos 0 ≤ℤ R → R ≤ℤ pos 4259840 → pos 0 ≤ℤ p → p ≤ℤ pos 1 → IsDividend H R p
+dividend_of H R p H_small at_least slow low high =
+    let R_small : unsigned_abs R ≤ 2 ^ 23 = omega (arith, ints) in
+    let p_small : unsigned_abs p ≤ 1 = omega (arith, ints) in
+    let factor : unsigned_abs (R *ℤ p) ≤ 2 ^ 23 * 1 = product_size R p (2 ^ 23) 1 R_small p_small in
+    let factor_small : unsigned_abs (R *ℤ p) ≤ 2 ^ 23 = omega arith in
+    let product : unsigned_abs (H *ℤ (R *ℤ p)) ≤ 2 ^ 62 * 2 ^ 23 = product_size H (R *ℤ p) (2 ^ 62) (2 ^ 23) H_small factor_small in
+    let size : unsigned_abs (H *ℤ (R *ℤ p)) ≤ 2 ^ 90 = omega arith in
+    record {
+      pi = fits_128 H (omega arith);
+      reach = fits_128 R (omega arith);
+      radius = fits_128 p (omega arith);
+      factor = fits_128 (R *ℤ p)
+          (omega arith);
+      product = fits_128 (H *ℤ (R *ℤ p)) (omega arith);
+      size = size;
+    }
+
+-- the same for the numbers of a scale, where the reach is converted
+pub dividend_at : (bits : ℕ) (L P H R from p : ℤ) → bits ≤ 60 → FromSomeOn (λ n. Encloses bits (record { lo = L; hi = P }) (pi_sum n)) → P ≡ L +ℤ pos 1
+    → H ≡ P → from ≡ R → pos 0 ≤ℤ R → R ≤ℤ pos 4259840 → pos 0 ≤ℤ p → p ≤ℤ pos 1 → IsDividend H from p
+dividend_at bits L P H R from p room pi unit H_is from_is at_least slow low high =
+    let size : unsigned_abs H ≤ 2 ^ 62 = subst (λ t. unsigned_abs t ≤ 2 ^ 62) (sym H_is) (pi_size bits L P room pi unit).1 in
+    subst (λ z. IsDividend H z p) (sym from_is) (dividend_of H R p size at_least slow low high)
+
+-- what is rounded up is the ceiling, and there is one ceiling
+rounded_up_ceiling : (n : ℤ) (d : ℕ) → 0 < d → IsCeiling (rounded_up n (pos d)) n (pos d)
+rounded_up_ceiling n d h =
+    let floor : IsFloor (int_div_euclid (neg_ℤ n) (pos d)) (neg_ℤ n) (pos d) = floor_of_division (neg_ℤ n) (pos d) (omega (arith, ints)) in
+    let negative : neg_ℤ n ≡ pos 0 -ℤ n = omega (arith, ints) in
+    let back : pos 0 -ℤ int_div_euclid (neg_ℤ n) (pos d) ≡ rounded_up n (pos d) = omega (arith, ints) in
+    subst (λ q. IsCeiling q n (pos d)) back
+    (ceiling_of_floor (int_div_euclid (neg_ℤ n) (pos d)) n (pos d) (subst (λ m. IsFloor (int_div_euclid (neg_ℤ n) (pos d)) m (pos d)) negative floor))
+
+pub rounded_up_is_ceiling : (n d : ℤ) → pos 1 ≤ℤ d → IsCeiling (rounded_up n d) n d
+rounded_up_is_ceiling n (pos d) positive = rounded_up_ceiling n d (omega (arith, ints))
+rounded_up_is_ceiling n (negsuc d) positive = absurd positive.le
+
+pub ceiling_is : (q n d : ℤ) → pos 1 ≤ℤ d → IsCeiling q n d → q ≡ rounded_up n d
+ceiling_is q n (pos d) positive h =
+    let p : 0 < d = omega (arith, ints) in
+    let other = rounded_up_ceiling n d p in
+    let up : q ≤ℤ rounded_up n (pos d) = rounded_mono true q n (rounded_up n (pos d)) n d p h other (same_at_most n) in
+    let down : rounded_up n (pos d) ≤ℤ q = rounded_mono true (rounded_up n (pos d)) n q n d p other h (same_at_most n) in
+    both_at_most q (rounded_up n (pos d)) up down
+  where
+    same_at_most : (n : ℤ) → n ≤ℤ n
+    same_at_most n = omega (arith, ints)
+
+    both_at_most : (a b : ℤ) → a ≤ℤ b → b ≤ℤ a → a ≡ b
+    both_at_most a b h k = omega (arith, ints)
+ceiling_is q n (negsuc d) positive h = absurd positive.le
+
+-- a number from 0 on is its size
+pub is_its_size : (z : ℤ) → pos 0 ≤ℤ z → z ≡ pos (unsigned_abs z)
+is_its_size z h = omega (arith, ints)
+
+-- the drift, as it is rounded up
+pub drift_is : (pi D R : ℤ) (r : Neighbourhood) → IsNeighbourhood r → pos 0 ≤ℤ R → IsCeiling D (pi *ℤ (R *ℤ r.radius)) r.centre.den
+    → D ≡ drift_units pi r (unsigned_abs R)
+drift_is pi D R r near low ceiling = ceiling_is D (pi *ℤ (pos (unsigned_abs R) *ℤ r.radius)) r.centre.den near.angles.positive
+    (subst (λ z. IsCeiling D (pi *ℤ (z *ℤ r.radius)) r.centre.den) (is_its_size R low) ceiling)
+
+-- ---- the sum
+
+-- a drift and a margin, and their sum
+pub record IsSum (D M : ℤ) : Type 0 where
+  pub drift : FitsSigned w128 D
+  pub margin : FitsSigned w128 M
+  pub sum : FitsSigned w128 (D +ℤ M)
+  pub at_least : pos 1 ≤ℤ (D +ℤ M)
+  pub size : unsigned_abs (D +ℤ M) ≤ 2 ^ 100
+
+sum_of : (D M : ℤ) → pos 0 ≤ℤ D → unsigned_abs D ≤ 2 ^ 90 → pos 1 ≤ℤ M → unsigned_abs M ≤ 2 ^ 90 → IsSum D M
+sum_of D M low small one light =
+    let size : unsigned_abs (D +ℤ M) ≤ 2 ^ 100 = omega (arith, ints) in
+    record { drift = fits_128 D (omega arith); margin = fits_128 M (omega arith); sum = fits_128 (D +ℤ M) (omega arith); at_least = omega (arith, ints); size = size }
+
+product_at_least : (H p : ℤ) (r : ℕ) → pos 0 ≤ℤ H → pos 0 ≤ℤ p → pos 0 ≤ℤ (H *ℤ (pos r *ℤ p))
+product_at_least (pos h) (pos q) r low low' = omega (arith, ints)
+product_at_least (pos h) (negsuc q) r low low' = absurd low'.le
+product_at_least (negsuc h) p r low low' = absurd low.le
+
+-- a drift is at least 0
+pub drift_at_least : (H : ℤ) (r : Neighbourhood) (reach : ℕ) → pos 0 ≤ℤ H → IsNeighbourhood r → pos 0 ≤ℤ drift_units H r reach
+drift_at_least H r reach low near = at r.centre.den near.angles.positive
+  where
+    no_multiple : (d : ℕ) (n : ℤ) → pos 0 ≤ℤ n → (pos 0 *ℤ pos d) ≤ℤ n
+    no_multiple d n h = omega (arith, ints)
+
+    at : (den : ℤ) → pos 1 ≤ℤ den → pos 0 ≤ℤ rounded_up (H *ℤ (pos reach *ℤ r.radius)) den
+    at (pos d) positive = rounded_at_least true (pos 0) (rounded_up (H *ℤ (pos reach *ℤ r.radius)) (pos d)) (H *ℤ (pos reach *ℤ r.radius)) d (omega (arith, ints))
+        (rounded_up_is_ceiling (H *ℤ (pos reach *ℤ r.radius)) (pos d) positive)
+        (no_multiple d (H *ℤ (pos reach *ℤ r.radius)) (product_at_least H r.radius reach low near.at_least))
+    at (negsuc d) positive = absurd positive.le
+
+-- a drift is at most 2^90
+drift_size : (H : ℤ) (r : Neighbourhood) (reach : ℕ) → IsNeighbourhood r → unsigned_abs H ≤ 2 ^ 62 → reach ≤ 4259840 → unsigned_abs (drift_units H r reach) ≤ 2 ^ 90
+drift_size H r reach near small slow =
+    rounded_not_larger true (drift_units H r reach) (H *ℤ (pos reach *ℤ r.radius)) r.centre.den (2 ^ 90) near.angles.positive
+    (rounded_up_is_ceiling (H *ℤ (pos reach *ℤ r.radius)) r.centre.den near.angles.positive)
+    (dividend_of H (pos reach) r.radius small (omega (arith, ints)) (omega (arith, ints)) near.at_least near.at_most).size
+
+-- a margin is from 1 to 2^90
+margin_between : (bits low weight : ℕ) → bits ≤ 60 → weight ≤ 16384 → (pos 1 ≤ℤ margin_units bits low weight) × (unsigned_abs (margin_units bits low weight) ≤ 2 ^ 90)
+margin_between bits low weight room light =
+    let below : bits - low ≤ 60 = omega arith in
+    let units : 2 ^ (bits - low) ≤ 2 ^ 60 = pow_mono below in
+    let some : 1 ≤ 2 ^ (bits - low) = pow_pos (bits - low) in
+    let factor : 1 + weight ≤ 2 ^ 15 = omega arith in
+    let all : 2 ^ (bits - low) * (1 + weight) ≤ 2 ^ 60 * 2 ^ 15 = mul-le-mul units factor in
+    let positive : 1 ≤ 1 + weight = omega arith in
+    let one : 1 * 1 ≤ 2 ^ (bits - low) * (1 + weight) = mul-le-mul some positive in
+    (as_whole (2 ^ (bits - low) * (1 + weight)) one, smaller (2 ^ (bits - low) * (1 + weight)) all)
+  where
+    smaller : (n : ℕ) → n ≤ 2 ^ 60 * 2 ^ 15 → unsigned_abs (pos n) ≤ 2 ^ 90
+    smaller n h = omega arith
+
+    as_whole : (n : ℕ) → 1 * 1 ≤ n → pos 1 ≤ℤ pos n
+    as_whole n h = omega (arith, ints)
+
+-- pi is at least 0, in units
+pub pi_at_least : (bits : ℕ) (L H : ℤ) → H ≡ L +ℤ pos 1 → FromSomeOn (λ n. Encloses bits (record { lo = L; hi = H }) (pi_sum n)) → pos 0 ≤ℤ H
+pi_at_least bits L H unit pi = above L H (pi_units bits L H unit pi).0 unit
+  where
+    above : (L H : ℤ) → pos 0 ≤ℤ L → H ≡ L +ℤ pos 1 → pos 0 ≤ℤ H
+    above L H h k = omega (arith, ints)
+
+pub sum_fits : (bits low : ℕ) (L H D M : ℤ) (r : Neighbourhood) (weight reach : ℕ) → bits ≤ 60
+    → FromSomeOn (λ n. Encloses bits (record { lo = L; hi = H }) (pi_sum n)) → H ≡ L +ℤ pos 1 → IsNeighbourhood r → weight ≤ 16384 → reach ≤ 4259840
+    → D ≡ drift_units H r reach → M ≡ margin_units bits low weight → IsSum D M
+sum_fits bits low L H D M r weight reach room pi unit near light slow D_is M_is =
+    let size = (pi_size bits L H room pi unit).1 in
+    let least : pos 0 ≤ℤ H = pi_at_least bits L H unit pi in
+    let margin = margin_between bits low weight room light in
+    subst₂ IsSum (sym D_is) (sym M_is) (sum_of (drift_units H r reach) (margin_units bits low weight) (drift_at_least H r reach least near) (drift_size H r reach near size slow) margin.0 margin.1)
+
+-- ---- what is needed
+
+-- the errors at a weight W, and a threshold T
+pub record IsNeeded (W T : ℤ) : Type 0 where
+  pub weight : FitsSigned w128 W
+  pub threshold : FitsSigned w128 T
+  pub errors : FitsSigned w128 (pos 256 *ℤ W)
+  pub sum : FitsSigned w128 (pos 256 *ℤ W +ℤ T)
+  pub is : pos 256 *ℤ W +ℤ T ≡ pos (256 * unsigned_abs W) +ℤ T
+
+pub needed_fits : (W T : ℤ) → pos 0 ≤ℤ W → W ≤ℤ pos 16384 → unsigned_abs T ≤ 2 ^ 100 → IsNeeded W T
+needed_fits W T low light small =
+    let factor : unsigned_abs W ≤ 16384 = omega (arith, ints) in
+    let errors : pos 256 *ℤ W ≡ pos (256 * unsigned_abs W) = ap (λ z. pos 256 *ℤ z) (is_its_size W low) in
+    record {
+      weight = fits_128 W (omega arith);
+      threshold = fits_128 T (omega arith);
+      errors = subst (FitsSigned w128) (sym errors) (fits_128 (pos (256 * unsigned_abs W)) (omega arith));
+      sum = subst (λ z. FitsSigned w128 (z +ℤ T)) (sym errors) (fits_128 (pos (256 * unsigned_abs W) +ℤ T) (added (256 * unsigned_abs W) T (omega arith) small));
+      is = ap (λ z. z +ℤ T) errors;
+    }
+  where
+    added : (n : ℕ) (T : ℤ) → n ≤ 2 ^ 30 → unsigned_abs T ≤ 2 ^ 100 → unsigned_abs (pos n +ℤ T) ≤ 2 ^ 120
+    added n T h k = omega (arith, ints)

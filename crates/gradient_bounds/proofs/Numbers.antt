@@ -1,0 +1,100 @@
+-- What the whole number of a function at the centre of a neighbourhood says of two slacks.
+use Rattle.std.proofs.Common.{◌≡◌, refl, sym, ap₂, ◌∙◌, subst, ℕ, ◌+◌, ◌*◌, ◌^◌, ◌≤◌, ℤ, pos, ◌+ℤ◌, ◌-ℤ◌, ◌*ℤ◌, neg_ℤ, ◌≤ℤ◌, unsigned_abs, List, [], ◌∷◌, arith}
+use Rattle.std.specs.List.{All}
+use Rattle.std.proofs.lemmas.Int.{ints}
+use Rattle.std.proofs.lemmas.List.Elements.{All-head, All-tail}
+use Rattle.ring_solver.specs.Expression.{num, ◌⊞◌, ◌⊟◌, ◌⊠◌, opp}
+use Rattle.ring_solver.specs.Ordered.{le, times}
+use Rattle.ring_solver.specs.Whole.{ℤ_ring, ℤ_image}
+use Rattle.ring_solver.proofs.Certificate.{le₃, le₄}
+use Rattle.rat_core.specs.Fraction.{ℚ, ◌÷◌, whole, ◌+ℚ◌, ◌-ℚ◌, ◌*ℚ◌, ◌≤ℚ◌, abs}
+use Rattle.rat_core.proofs.Laws.{ℚ_ordered, int-add, int-sub}
+use Rattle.rat_core.proofs.Order.{le_abs, neg_le_abs}
+use Rattle.exp_sums.specs.declared.terms.Term.{Term}
+use Rattle.exp_sums.specs.FormalPoint.{FormalPoint, terms}
+use Rattle.exp_sums.specs.Limits.{weight, terms_weight}
+use Rattle.exp_sums.specs.Reach.{reach}
+use Rattle.trig_meaning.specs.PartialSums.{pi_sum}
+use Rattle.trig_meaning.specs.FromSomeOn.{FromSomeOn}
+use Rattle.trig_meaning.specs.Value.{value_at}
+use Rattle.trig_meaning.proofs.FromSomeOnLaws.{onward}
+use Rattle.directed_fixed.specs.Ends.{Ends, Encloses}
+use Rattle.gradient_bounds.specs.declared.neighbourhood.Neighbourhood.{Neighbourhood}
+use Rattle.defining_functions.specs.Functions.{IsWithinFunctionLimits}
+use Rattle.gradient_bounds.specs.Angles.{value_of_terms}
+use Rattle.gradient_bounds.specs.Clear.{slack}
+use Rattle.gradient_bounds.specs.Neighbourhood.{IsNeighbourhood, Ball, ball_of, threshold_of, IsClearIn, IsShutIn}
+use Rattle.gradient_bounds.specs.Decision.{drift_units, margin_units, threshold_units, needed}
+use Rattle.gradient_bounds.proofs.Computed.{rounded_up_is_ceiling}
+use Rattle.gradient_bounds.proofs.Drifts.{IsDrift, drift_of, threshold_enough, threshold_little}
+use Rattle.gradient_bounds.proofs.Passing.{IsMeasured, reached_clear, clear_reached, reached_shut, shut_reached}
+
+-- what is known of a scale: pi is between two neighbours, and the slacks are apart
+pub record IsScale (bits low high : ℕ) (L H : ℤ) : Type 0 where
+  pub one_unit : H ≡ L +ℤ pos 1
+  pub pi : FromSomeOn (λ n. Encloses bits (record { lo = L; hi = H }) (pi_sum n))
+  pub apart : high + 12 ≤ low
+  pub room : low ≤ bits
+
+-- the ends between which a number z allows the value of f to be
+abbrev pub allowed : ℤ → FormalPoint → Ends
+allowed z f = record { lo = z -ℤ pos (256 * weight f); hi = z +ℤ pos (256 * weight f) }
+
+module _ (bits low high : ℕ) (L H : ℤ) (scale : IsScale bits low high L H) (r : Neighbourhood) (near : IsNeighbourhood r) (f : FormalPoint)
+    (slow : reach f ≤ 260 * weight f) where
+  is_drift : IsDrift L H (drift_units H r (reach f)) (reach f) (weight f) r.radius (unsigned_abs r.centre.den)
+  is_drift = drift_of L H (drift_units H r (reach f)) (reach f) (weight f) r.radius r.centre.den near.angles.positive near.at_least near.at_most slow
+      scale.one_unit (rounded_up_is_ceiling (H *ℤ (pos (reach f) *ℤ r.radius)) r.centre.den near.angles.positive)
+
+  -- the threshold in units is enough for the narrower slack, and little for the wider one
+  pub enough : FromSomeOn (λ n. threshold_of n (ball_of r).radius (slack low) f *ℚ whole (2 ^ bits) ≤ℚ threshold_units bits low H r (weight f) (reach f) ÷ 1)
+  enough = threshold_enough bits low L H (drift_units H r (reach f)) (margin_units bits low (weight f)) f r.radius (unsigned_abs r.centre.den) scale.room refl
+      is_drift scale.pi
+
+  pub little : FromSomeOn (λ n. (threshold_units bits low H r (weight f) (reach f) +ℤ pos (512 * weight f)) ÷ 1
+      ≤ℚ threshold_of n (ball_of r).radius (slack high) f *ℚ whole (2 ^ bits))
+  little = threshold_little bits low high L H (drift_units H r (reach f)) (margin_units bits low (weight f)) f r.radius (unsigned_abs r.centre.den) scale.apart
+      scale.room refl is_drift scale.pi
+
+  module _ (z : ℤ) (number : FromSomeOn (λ n. Encloses bits (allowed z f) (value_at n f (ball_of r).x (ball_of r).y))) where
+    is_measured : IsMeasured bits low high (ball_of r) f (threshold_units bits low H r (weight f) (reach f)) (allowed z f)
+    is_measured = record {
+      enough = enough;
+      little = little;
+      encloses = number;
+      narrow = apart z (weight f);
+    }
+      where
+        apart : (z : ℤ) (w : ℕ) → (z +ℤ pos (256 * w)) ≤ℤ (z -ℤ pos (256 * w) +ℤ pos (512 * w))
+        apart z w = omega (arith, ints)
+
+    lower : (t z : ℤ) (m : ℕ) → (pos m +ℤ t) ≤ℤ z → t ≤ℤ (z -ℤ pos m)
+    lower t z m h = omega (arith, ints)
+
+    back : (t z : ℤ) (m : ℕ) → t ≤ℤ (z -ℤ pos m) → (pos m +ℤ t) ≤ℤ z
+    back t z m h = omega (arith, ints)
+
+    upper : (t z : ℤ) (m : ℕ) → z ≤ℤ neg_ℤ (pos m +ℤ t) → t ≤ℤ neg_ℤ (z +ℤ pos m)
+    upper t z m h = omega (arith, ints)
+
+    back_down : (t z : ℤ) (m : ℕ) → t ≤ℤ neg_ℤ (z +ℤ pos m) → z ≤ℤ neg_ℤ (pos m +ℤ t)
+    back_down t z m h = omega (arith, ints)
+
+    abbrev threshold : ℤ
+    threshold = threshold_units bits low H r (weight f) (reach f)
+
+    -- a number that reaches what is needed says that the function is clear with the narrower slack ..
+    pub reaches_clear : needed bits low H r f ≤ℤ z → IsClearIn (ball_of r) (slack low) f
+    reaches_clear h = reached_clear bits low high (ball_of r) f threshold (allowed z f) is_measured (lower threshold z (256 * weight f) h)
+
+    -- .. and that of a function which is clear with the wider one reaches it
+    pub clear_reaches : IsClearIn (ball_of r) (slack high) f → needed bits low H r f ≤ℤ z
+    clear_reaches clear = back threshold z (256 * weight f) (clear_reached bits low high (ball_of r) f threshold (allowed z f) is_measured clear)
+
+    -- a number that lies as far below 0 says that the function is shut with the narrower slack ..
+    pub falls_shut : z ≤ℤ neg_ℤ (needed bits low H r f) → IsShutIn (ball_of r) (slack low) f
+    falls_shut h = reached_shut bits low high (ball_of r) f threshold (allowed z f) is_measured (upper threshold z (256 * weight f) h)
+
+    -- .. and that of a function which is shut with the wider one does
+    pub shut_falls : IsShutIn (ball_of r) (slack high) f → z ≤ℤ neg_ℤ (needed bits low H r f)
+    shut_falls shut = back_down threshold z (256 * weight f) (shut_reached bits low high (ball_of r) f threshold (allowed z f) is_measured shut)
