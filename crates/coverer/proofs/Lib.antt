@@ -1,4 +1,4 @@
 mod Shut
 mod Reached
 mod Lines
-mod Sure
+pub mod Sure

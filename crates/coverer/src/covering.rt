@@ -1,4 +1,4 @@
-ghost use Rattle.std.specs.Prelude.{◌≡◌, ◌≤◌, List, ℕ, IfOk, IfErr};
+ghost use Rattle.std.specs.Prelude.{◌≡◌, ◌≤◌, List, ℕ, IfOk, IfErr, IsErrOf};
 ghost use Rattle.std.specs.Io.KnownBytes.{Appends};
 ghost use Rattle.mcb_ends.specs.Bytes.{AppendsPrefix};
 ghost use Rattle.mcb_ends.specs.Causes.{HasCause, HasCauseWhere};
@@ -26,6 +26,9 @@ pub fn cover<K: Sink>(
     ensures text { WritesCover limit header.now (K.written out.old) (K.written out.new) result }
     ensures room { K.room out.new ≡ K.room out.old }
     ensures cause { HasCauseWhere is_cover_write (K.faults out.old) (K.faults out.new) result }
+
+    // Where memory is wanting, the sink was left alone.
+    ensures unwritten { IsErrOf result CoverFault.Memory → out.new ≡ out.old }
 {
     let Ok(mut tests) = prepare(alloc, header) else {
         return Err(CoverFault::Memory);

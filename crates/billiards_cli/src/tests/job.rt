@@ -36,7 +36,7 @@ fn job_lays_a_fault_to_the_sink(rt: HostRuntime) -> Result<(), Fail> {
         run(rt.alloc(), &arguments, &mut src, &mut out),
         Status::WriteFault
     );
-    assert_eq!(rt; out.bytes(), b"mcbjob 1\ngrid".as_slice());
+    assert_eq!(rt; out.bytes(), b"mcbjob 1\ngrid ".as_slice());
     assert_eq!(rt; src.faults(), 0);
     Ok(())
 }
