@@ -26,7 +26,7 @@ impl<S: Scale> Model for WordTests<S> {
 
     ghost Value = { List ℕ };
 
-    ghost view = { λ tests. tests.prepared };
+    ghost view = { λ tests. tests.prepared.word };
 }
 
 impl<S: Scale> WordTests<S> {
