@@ -274,12 +274,7 @@ impl<S: Scale> Prepared<S> {
     {
         let (x, y) = place.centre();
         self.move_to(x, y);
-        some_falls_below::<S>(
-            &self.functions,
-            &self.uppers,
-            &self.lowers,
-            &square(place),
-        )
+        some_falls_below::<S>(&self.functions, &self.uppers, &self.lowers, &square(place))
     }
 
     /// Fills the table at (x, y), unless it was filled there last.
