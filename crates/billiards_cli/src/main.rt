@@ -5,6 +5,7 @@
 #![tactic(auto)]
 
 mod args;
+mod blocks;
 mod commands;
 mod job_number;
 pub mod laws;
@@ -66,6 +67,6 @@ fn status_without_arguments(kind: io::ErrorKind) -> Status {
 // Runs over the standard streams.
 fn run_over_streams(rt: &HostRuntime, arguments: &Args) -> Status {
     let mut source = StdSource::new(rt.stdin());
-    let mut sink = StdSink::new(rt.stdout());
-    run(rt.alloc(), arguments, &mut source, &mut sink)
+    let sink = StdSink::new(rt.stdout());
+    blocks::run_in_blocks(rt.alloc(), arguments, &mut source, sink)
 }
