@@ -84,7 +84,6 @@ measured bits low high b f t r ts ts_is enough little encloses narrow =
       encloses = subst (λ us. FromSomeOn (λ n. Encloses bits r (value_of_terms n us b.x b.y))) ts_is encloses;
       narrow = wider r.lo r.hi (weight f) (subst (λ us. r.hi ≤ℤ (r.lo +ℤ pos (256 * terms_weight us))) ts_is narrow);
     }
-
   where
     wider : (lo hi : ℤ) (w : ℕ) → hi ≤ℤ (lo +ℤ pos (256 * w)) → hi ≤ℤ (lo +ℤ pos (512 * w))
     wider lo hi w h = omega (arith, ints)
