@@ -1,3 +1,5 @@
 pub mod Chords
 pub mod Corners
 pub mod Boxes
+pub mod Units
+pub mod Sags

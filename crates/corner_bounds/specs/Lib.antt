@@ -1,1 +1,2 @@
+pub mod Sag
 pub mod Laws

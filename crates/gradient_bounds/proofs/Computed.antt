@@ -131,7 +131,7 @@ drift_size H r reach near small slow =
     (dividend_of H (pos reach) r.radius small (omega (arith, ints)) (omega (arith, ints)) near.at_least near.at_most).size
 
 -- a margin is from 1 to 2^90
-margin_between : (bits low weight : ℕ) → bits ≤ 60 → weight ≤ 16384 → (pos 1 ≤ℤ margin_units bits low weight) × (unsigned_abs (margin_units bits low weight) ≤ 2 ^ 90)
+pub margin_between : (bits low weight : ℕ) → bits ≤ 60 → weight ≤ 16384 → (pos 1 ≤ℤ margin_units bits low weight) × (unsigned_abs (margin_units bits low weight) ≤ 2 ^ 90)
 margin_between bits low weight room light =
     let below : bits - low ≤ 60 = omega arith in
     let units : 2 ^ (bits - low) ≤ 2 ^ 60 = pow_mono below in
