@@ -20,12 +20,12 @@ use Rattle.trig_meaning.proofs.Gradient.{value_is_steep}
 use Rattle.rational_polygon.specs.Point.{Point}
 use Rattle.rational_polygon.specs.Square.{Square, centre, half_side, IsInBox}
 use Rattle.rational_polygon.proofs.Centres.{near_centre}
-use Rattle.gradient_bounds.specs.Corridor.{EachFunction}
+use Rattle.gradient_bounds.specs.Corridor.{EachFunction, SomeFunction}
 use Rattle.gradient_bounds.specs.Clear.{margin, drift, central_value, IsClearFunction, IsClearAtPoint, IsClearFunctionOn, IsShutFunctionOn, IsShut}
 use Rattle.gradient_bounds.specs.Laws.{ClearGivesCorridor, ShutGivesNoCorridor, ClearWithLess}
 use Rattle.gradient_bounds.specs.Neighbourhood.{Ball, threshold_of, IsClearIn}
 use Rattle.gradient_bounds.proofs.Margins.{margin_positive}
-use Rattle.gradient_bounds.proofs.Rows.{SomeFunction, each_meets_some, each_onward}
+use Rattle.gradient_bounds.proofs.EachFunction.{each_meets_some, each_onward}
 
 -- ---- from the centre to a point
 

@@ -6,8 +6,12 @@ pub mod Passing
 pub mod Numbers
 pub mod Deciding
 pub mod Turning
-pub mod Enclosing
-pub mod Rows
 pub mod Refusals
 pub mod Boxes
 pub mod Within
+pub mod Sums
+pub mod EachFunction
+pub mod Marks
+pub mod Numbering
+pub mod Tested
+pub mod Tests

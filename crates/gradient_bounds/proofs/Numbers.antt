@@ -1,33 +1,21 @@
 -- What the whole number of a function at the centre of a neighbourhood says of two slacks.
-use Rattle.std.proofs.Common.{◌≡◌, refl, sym, ap₂, ◌∙◌, subst, ℕ, ◌+◌, ◌*◌, ◌^◌, ◌≤◌, ℤ, pos, ◌+ℤ◌, ◌-ℤ◌, ◌*ℤ◌, neg_ℤ, ◌≤ℤ◌, unsigned_abs, List, [], ◌∷◌, arith}
-use Rattle.std.specs.List.{All}
+use Rattle.std.proofs.Common.{◌≡◌, refl, ℕ, ◌+◌, ◌*◌, ◌^◌, ◌≤◌, ℤ, pos, ◌+ℤ◌, ◌-ℤ◌, ◌*ℤ◌, neg_ℤ, ◌≤ℤ◌, unsigned_abs, arith}
 use Rattle.std.proofs.lemmas.Int.{ints}
-use Rattle.std.proofs.lemmas.List.Elements.{All-head, All-tail}
-use Rattle.ring_solver.specs.Expression.{num, ◌⊞◌, ◌⊟◌, ◌⊠◌, opp}
-use Rattle.ring_solver.specs.Ordered.{le, times}
-use Rattle.ring_solver.specs.Whole.{ℤ_ring, ℤ_image}
-use Rattle.ring_solver.proofs.Certificate.{le₃, le₄}
-use Rattle.rat_core.specs.Fraction.{ℚ, ◌÷◌, whole, ◌+ℚ◌, ◌-ℚ◌, ◌*ℚ◌, ◌≤ℚ◌, abs}
-use Rattle.rat_core.proofs.Laws.{ℚ_ordered, int-add, int-sub}
-use Rattle.rat_core.proofs.Order.{le_abs, neg_le_abs}
-use Rattle.exp_sums.specs.declared.terms.Term.{Term}
-use Rattle.exp_sums.specs.FormalPoint.{FormalPoint, terms}
-use Rattle.exp_sums.specs.Limits.{weight, terms_weight}
+use Rattle.rat_core.specs.Fraction.{◌÷◌, whole, ◌*ℚ◌, ◌≤ℚ◌}
+use Rattle.exp_sums.specs.FormalPoint.{FormalPoint}
+use Rattle.exp_sums.specs.Limits.{weight}
 use Rattle.exp_sums.specs.Reach.{reach}
 use Rattle.trig_meaning.specs.PartialSums.{pi_sum}
 use Rattle.trig_meaning.specs.FromSomeOn.{FromSomeOn}
 use Rattle.trig_meaning.specs.Value.{value_at}
-use Rattle.trig_meaning.proofs.FromSomeOnLaws.{onward}
 use Rattle.directed_fixed.specs.Ends.{Ends, Encloses}
 use Rattle.gradient_bounds.specs.declared.neighbourhood.Neighbourhood.{Neighbourhood}
-use Rattle.defining_functions.specs.Functions.{IsWithinFunctionLimits}
-use Rattle.gradient_bounds.specs.Angles.{value_of_terms}
 use Rattle.gradient_bounds.specs.Clear.{slack}
-use Rattle.gradient_bounds.specs.Neighbourhood.{IsNeighbourhood, Ball, ball_of, threshold_of, IsClearIn, IsShutIn}
+use Rattle.gradient_bounds.specs.Neighbourhood.{IsNeighbourhood, ball_of, threshold_of, IsClearIn, IsShutIn}
 use Rattle.gradient_bounds.specs.Decision.{drift_units, margin_units, threshold_units, needed}
 use Rattle.gradient_bounds.proofs.Computed.{rounded_up_is_ceiling}
 use Rattle.gradient_bounds.proofs.Drifts.{IsDrift, drift_of, threshold_enough, threshold_little}
-use Rattle.gradient_bounds.proofs.Passing.{IsMeasured, measured, reached_clear, clear_reached, reached_shut, shut_reached}
+use Rattle.gradient_bounds.proofs.Passing.{IsMeasured, reached_clear, clear_reached, reached_shut, shut_reached}
 
 -- what is known of a scale: pi is between two neighbours, and the slacks are apart
 pub record IsScale (bits low high : ℕ) (L H : ℤ) : Type 0 where
@@ -36,9 +24,9 @@ pub record IsScale (bits low high : ℕ) (L H : ℤ) : Type 0 where
   pub apart : high + 12 ≤ low
   pub room : low ≤ bits
 
--- z is within 256 units of the value of f at (x, y), for each unit of weight, from some n on
-abbrev pub IsNumber : ℕ → FormalPoint → ℚ → ℚ → ℤ → Type 0
-IsNumber bits f x y z = FromSomeOn (λ n. abs (value_at n f x y *ℚ whole (2 ^ bits) -ℚ z ÷ 1) ≤ℚ whole (256 * weight f))
+-- the ends between which a number z allows the value of f to be
+abbrev pub allowed : ℤ → FormalPoint → Ends
+allowed z f = record { lo = z -ℤ pos (256 * weight f); hi = z +ℤ pos (256 * weight f) }
 
 module _ (bits low high : ℕ) (L H : ℤ) (scale : IsScale bits low high L H) (r : Neighbourhood) (near : IsNeighbourhood r) (f : FormalPoint)
     (slow : reach f ≤ 260 * weight f) where
@@ -56,33 +44,15 @@ module _ (bits low high : ℕ) (L H : ℤ) (scale : IsScale bits low high L H) (
   little = threshold_little bits low high L H (drift_units H r (reach f)) (margin_units bits low (weight f)) f r.radius (unsigned_abs r.centre.den) scale.apart
       scale.room refl is_drift scale.pi
 
-  module _ (z : ℤ) (number : IsNumber bits f (ball_of r).x (ball_of r).y z) where
-    -- the ends between which the number allows the value to be
-    abbrev allowed : Ends
-    allowed = record { lo = z -ℤ pos (256 * weight f); hi = z +ℤ pos (256 * weight f) }
-
-    is_measured : IsMeasured bits low high (ball_of r) f (threshold_units bits low H r (weight f) (reach f)) allowed
+  module _ (z : ℤ) (number : FromSomeOn (λ n. Encloses bits (allowed z f) (value_at n f (ball_of r).x (ball_of r).y))) where
+    is_measured : IsMeasured bits low high (ball_of r) f (threshold_units bits low H r (weight f) (reach f)) (allowed z f)
     is_measured = record {
       enough = enough;
       little = little;
-      encloses = onward (λ n close. within (value_at n f (ball_of r).x (ball_of r).y) z (256 * weight f) close) number;
+      encloses = number;
       narrow = apart z (weight f);
     }
       where
-        within : (v : ℚ) (z : ℤ) (m : ℕ) → abs (v *ℚ whole (2 ^ bits) -ℚ z ÷ 1) ≤ℚ whole m
-            → Encloses bits (record { lo = z -ℤ pos m; hi = z +ℤ pos m }) v
-        within v z m close =
-            let u = v *ℚ whole (2 ^ bits) in
-            let d = u -ℚ z ÷ 1 in
-            record {
-              low = subst (λ t. t ≤ℚ u) (sym (int-sub z (pos m)))
-                  (le₄ ℚ_ordered (λ u z m a. z ⊟ m) (λ u z m a. u) (λ u z m a. le (opp (u ⊟ z)) a ∷ le a m ∷ []) refl u (z ÷ 1) (whole m) (abs d)
-                  (neg_le_abs d, (close, tt)));
-              high = subst (λ t. u ≤ℚ t) (sym (int-add z (pos m)))
-                  (le₄ ℚ_ordered (λ u z m a. u) (λ u z m a. z ⊞ m) (λ u z m a. le (u ⊟ z) a ∷ le a m ∷ []) refl u (z ÷ 1) (whole m) (abs d)
-                  (le_abs d, (close, tt)));
-            }
-
         apart : (z : ℤ) (w : ℕ) → (z +ℤ pos (256 * w)) ≤ℤ (z -ℤ pos (256 * w) +ℤ pos (512 * w))
         apart z w = omega (arith, ints)
 
@@ -103,34 +73,16 @@ module _ (bits low high : ℕ) (L H : ℤ) (scale : IsScale bits low high L H) (
 
     -- a number that reaches what is needed says that the function is clear with the narrower slack ..
     pub reaches_clear : needed bits low H r f ≤ℤ z → IsClearIn (ball_of r) (slack low) f
-    reaches_clear h = reached_clear bits low high (ball_of r) f threshold allowed is_measured (lower threshold z (256 * weight f) h)
+    reaches_clear h = reached_clear bits low high (ball_of r) f threshold (allowed z f) is_measured (lower threshold z (256 * weight f) h)
 
     -- .. and that of a function which is clear with the wider one reaches it
     pub clear_reaches : IsClearIn (ball_of r) (slack high) f → needed bits low H r f ≤ℤ z
-    clear_reaches clear = back threshold z (256 * weight f) (clear_reached bits low high (ball_of r) f threshold allowed is_measured clear)
+    clear_reaches clear = back threshold z (256 * weight f) (clear_reached bits low high (ball_of r) f threshold (allowed z f) is_measured clear)
 
     -- a number that lies as far below 0 says that the function is shut with the narrower slack ..
     pub falls_shut : z ≤ℤ neg_ℤ (needed bits low H r f) → IsShutIn (ball_of r) (slack low) f
-    falls_shut h = reached_shut bits low high (ball_of r) f threshold allowed is_measured (upper threshold z (256 * weight f) h)
+    falls_shut h = reached_shut bits low high (ball_of r) f threshold (allowed z f) is_measured (upper threshold z (256 * weight f) h)
 
     -- .. and that of a function which is shut with the wider one does
     pub shut_falls : IsShutIn (ball_of r) (slack high) f → z ≤ℤ neg_ℤ (needed bits low H r f)
-    shut_falls shut = back_down threshold z (256 * weight f) (shut_reached bits low high (ball_of r) f threshold allowed is_measured shut)
-
--- a threshold that is computed from the weight and the reach of f
-pub threshold_of_function : (bits low : ℕ) (H : ℤ) (r : Neighbourhood) (f : FormalPoint) (t x y : ℤ)
-    → t ≡ threshold_units bits low H r (unsigned_abs x) (unsigned_abs y) → x ≡ pos (weight f) → y ≡ pos (reach f)
-    → t ≡ threshold_units bits low H r (weight f) (reach f)
-threshold_of_function bits low H r f t x y is x_is y_is =
-    is ∙ ap₂ (λ a b. threshold_units bits low H r (unsigned_abs a) (unsigned_abs b)) x_is y_is
-
--- what is said of the threshold is said of what is computed
-pub measured_by : (bits low high : ℕ) (L H : ℤ) → IsScale bits low high L H → (r : Neighbourhood) → IsNeighbourhood r → (f : FormalPoint) → IsWithinFunctionLimits f
-    → (t x y : ℤ) (e : Ends) (ts : List Term) → t ≡ threshold_units bits low H r (unsigned_abs x) (unsigned_abs y) → x ≡ pos (weight f) → y ≡ pos (reach f)
-    → ts ≡ terms f → FromSomeOn (λ n. Encloses bits e (value_of_terms n ts (ball_of r).x (ball_of r).y)) → e.hi ≤ℤ (e.lo +ℤ pos (256 * terms_weight ts))
-    → IsMeasured bits low high (ball_of r) f t e
-measured_by bits low high L H scale r near f limits t x y e ts is x_is y_is ts_is encloses width =
-    let t_is = threshold_of_function bits low H r f t x y is x_is y_is in
-    subst (λ z. IsMeasured bits low high (ball_of r) f z e) (sym t_is)
-    (measured bits low high (ball_of r) f (threshold_units bits low H r (weight f) (reach f)) e ts ts_is (enough bits low high L H scale r near f limits.slow)
-    (little bits low high L H scale r near f limits.slow) encloses width)
+    shut_falls shut = back_down threshold z (256 * weight f) (shut_reached bits low high (ball_of r) f threshold (allowed z f) is_measured shut)

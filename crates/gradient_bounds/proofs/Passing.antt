@@ -1,6 +1,6 @@
 -- What the ends of an interval for a value say of two slacks.
-use Rattle.std.proofs.Common.{◌≡◌, refl, sym, subst, ℕ, ◌*◌, ◌^◌, ℤ, pos, ◌+ℤ◌, ◌-ℤ◌, neg_ℤ, ◌≤ℤ◌, ◌≤◌, unsigned_abs, FitsSigned, Bool, true, false}
-use Rattle.std.proofs.Common.{T, [], ◌∷◌, List, arith}
+use Rattle.std.proofs.Common.{refl, sym, subst, ℕ, ◌*◌, ◌^◌, ℤ, pos, ◌+ℤ◌, ◌-ℤ◌, neg_ℤ, ◌≤ℤ◌, ◌≤◌, unsigned_abs, FitsSigned, Bool, true, false}
+use Rattle.std.proofs.Common.{T, [], ◌∷◌, arith}
 use Rattle.std.proofs.lemmas.Int.{ints, fits_signed_from_abs}
 use Rattle.std.specs.Int.{w128}
 use Rattle.std.proofs.lemmas.Nat.{pow_pos}
@@ -12,14 +12,12 @@ use Rattle.ring_solver.proofs.Certificate.{le₂, le₃, le₄}
 use Rattle.rat_core.specs.Fraction.{ℚ, ◌÷◌, whole, neg_ℚ, ◌*ℚ◌, ◌≤ℚ◌}
 use Rattle.rat_core.proofs.Laws.{ℚ_ordered, le_trans, int-neg}
 use Rattle.rat_core.proofs.Order.{int_le, int_le_back, whole_nonneg, cancel_le}
-use Rattle.exp_sums.specs.FormalPoint.{FormalPoint, terms}
-use Rattle.exp_sums.specs.declared.terms.Term.{Term}
-use Rattle.exp_sums.specs.Limits.{weight, terms_weight}
+use Rattle.exp_sums.specs.FormalPoint.{FormalPoint}
+use Rattle.exp_sums.specs.Limits.{weight}
 use Rattle.trig_meaning.specs.FromSomeOn.{FromSomeOn}
 use Rattle.trig_meaning.specs.Value.{value_at}
 use Rattle.trig_meaning.proofs.FromSomeOnLaws.{onward_both, somewhere}
 use Rattle.directed_fixed.specs.Ends.{Ends, Encloses}
-use Rattle.gradient_bounds.specs.Angles.{value_of_terms}
 use Rattle.gradient_bounds.specs.Clear.{slack}
 use Rattle.gradient_bounds.specs.Neighbourhood.{Ball, threshold_of, IsClearIn, IsShutIn}
 
@@ -71,22 +69,6 @@ pub record IsMeasured (bits low high : ℕ) (b : Ball) (f : FormalPoint) (t : �
   pub little : FromSomeOn (λ n. (t +ℤ pos (512 * weight f)) ÷ 1 ≤ℚ threshold_of n b.radius (slack high) f *ℚ whole (2 ^ bits))
   pub encloses : FromSomeOn (λ n. Encloses bits r (value_at n f b.x b.y))
   pub narrow : r.hi ≤ℤ (r.lo +ℤ pos (512 * weight f))
-
--- the interval is that of the terms
-pub measured : (bits low high : ℕ) (b : Ball) (f : FormalPoint) (t : ℤ) (r : Ends) (ts : List Term) → ts ≡ terms f
-    → FromSomeOn (λ n. threshold_of n b.radius (slack low) f *ℚ whole (2 ^ bits) ≤ℚ t ÷ 1)
-    → FromSomeOn (λ n. (t +ℤ pos (512 * weight f)) ÷ 1 ≤ℚ threshold_of n b.radius (slack high) f *ℚ whole (2 ^ bits))
-    → FromSomeOn (λ n. Encloses bits r (value_of_terms n ts b.x b.y)) → r.hi ≤ℤ (r.lo +ℤ pos (256 * terms_weight ts)) → IsMeasured bits low high b f t r
-measured bits low high b f t r ts ts_is enough little encloses narrow =
-    record {
-      enough = enough;
-      little = little;
-      encloses = subst (λ us. FromSomeOn (λ n. Encloses bits r (value_of_terms n us b.x b.y))) ts_is encloses;
-      narrow = wider r.lo r.hi (weight f) (subst (λ us. r.hi ≤ℤ (r.lo +ℤ pos (256 * terms_weight us))) ts_is narrow);
-    }
-  where
-    wider : (lo hi : ℤ) (w : ℕ) → hi ≤ℤ (lo +ℤ pos (256 * w)) → hi ≤ℤ (lo +ℤ pos (512 * w))
-    wider lo hi w h = omega (arith, ints)
 
 module _ (bits low high : ℕ) (b : Ball) (f : FormalPoint) (t : ℤ) (r : Ends) (h : IsMeasured bits low high b f t r) where
   -- a function whose lower end reaches the threshold is clear with the narrower slack ..

@@ -1,5 +1,5 @@
 -- Angles over one denominator, and turns of directions over it.
-use Rattle.std.proofs.Common.{◌≡◌, refl, sym, ap, ap₂, ◌∙◌, subst, subst₂, ℕ, ◌+◌, ◌*◌, ◌^◌, ◌<◌, ◌≤◌, ℤ, pos, negsuc, ◌+ℤ◌, ◌*ℤ◌, ◌≤ℤ◌, ◌<ℤ◌}
+use Rattle.std.proofs.Common.{◌≡◌, refl, sym, ap, ap₂, ◌∙◌, subst, subst₂, ℕ, ◌+◌, ◌*◌, ◌^◌, ◌<◌, ◌≤◌, ℤ, pos, negsuc, ◌+ℤ◌, ◌*ℤ◌, ◌≤ℤ◌}
 use Rattle.std.proofs.Common.{unsigned_abs, FitsSigned, to_z, of_z, lit<, arith, mul-pos, mul-le-mul}
 use Rattle.std.specs.Int.{w32, w128}
 use Rattle.std.proofs.Math.Pow.{pow_mono}
@@ -9,9 +9,9 @@ use Rattle.std.proofs.lemmas.Int.{ints, to_z-of_z, fits_signed_from_abs}
 use Rattle.ring_solver.specs.Expression.{◌⊞◌, ◌⊠◌}
 use Rattle.ring_solver.proofs.Solver.{ring₅}
 use Rattle.ring_solver.proofs.Whole.{pos_le, *ℤ_mono}
-use Rattle.rat_core.specs.Fraction.{ℚ, ◌÷◌, whole, ◌+ℚ◌, ◌*ℚ◌, ◌<ℚ◌}
+use Rattle.rat_core.specs.Fraction.{ℚ, ◌÷◌, whole, ◌+ℚ◌, ◌*ℚ◌, ◌≤ℚ◌}
 use Rattle.rat_core.specs.Written.{Written, value}
-use Rattle.rat_core.proofs.Laws.{ℚ_ring, over-mul, over-add, over_lt_back, int-add, int-mul}
+use Rattle.rat_core.proofs.Laws.{ℚ_ring, over-mul, over_le_back, int-add, int-mul}
 use Rattle.rat_core.proofs.Order.{cancel, over_common}
 use Rattle.rat_core.proofs.Compare.{small_fits, product_fits}
 use Rattle.directed_fixed.proofs.Rounding.{product_size}
@@ -25,11 +25,12 @@ use Rattle.gradient_bounds.specs.Angles.{IsAngles, first_angle, second_angle}
 abbrev common : ℤ → ℤ → ℤ → ℤ → Angles
 common X Y D E = record { first = X *ℤ E; second = Y *ℤ D; den = D *ℤ E }
 
--- the fractions are the angles of a triangle
-pub record IsTriangle (x y : Written) : Type 0 where
-  pub first : whole 0 <ℚ value x
-  pub second : whole 0 <ℚ value y
-  pub third : value x +ℚ value y <ℚ whole 1
+-- both fractions are from 0 to 1
+pub record IsUnitPoint (x y : Written) : Type 0 where
+  pub x_least : whole 0 ≤ℚ value x
+  pub x_most : value x ≤ℚ whole 1
+  pub y_least : whole 0 ≤ℚ value y
+  pub y_most : value y ≤ℚ whole 1
 
 -- what is said of the answer
 pub record IsCommon (x y : ℚ) (a : Angles) : Type 0 where
@@ -37,9 +38,14 @@ pub record IsCommon (x y : ℚ) (a : Angles) : Type 0 where
   pub first : first_angle a ≡ x
   pub second : second_angle a ≡ y
 
-numerator_positive : (X : ℤ) (d : ℕ) → 0 < d → whole 0 <ℚ X ÷ d → pos 0 ≤ℤ X
-numerator_positive X d p h =
-    let above : (pos 0 *ℤ pos d) <ℤ (X *ℤ pos 1) = over_lt_back (pos 0) X 1 d (lit< tt) p h in
+numerator_nonneg : (X : ℤ) (d : ℕ) → 0 < d → whole 0 ≤ℚ X ÷ d → pos 0 ≤ℤ X
+numerator_nonneg X d p h =
+    let above : (pos 0 *ℤ pos d) ≤ℤ (X *ℤ pos 1) = over_le_back (pos 0) X 1 d (lit< tt) p h in
+    omega (arith, ints)
+
+numerator_within : (X : ℤ) (d : ℕ) → 0 < d → X ÷ d ≤ℚ whole 1 → X ≤ℤ pos d
+numerator_within X d p h =
+    let below : (X *ℤ pos 1) ≤ℤ (pos 1 *ℤ pos d) = over_le_back X (pos 1) d 1 p (lit< tt) h in
     omega (arith, ints)
 
 product_nonneg : (X : ℤ) (e : ℕ) → pos 0 ≤ℤ X → pos 0 ≤ℤ (X *ℤ pos e)
@@ -47,24 +53,19 @@ product_nonneg X e h =
     let above : (pos 0 *ℤ pos e) ≤ℤ (X *ℤ pos e) = *ℤ_mono (pos 0) X e h in
     omega (arith, ints)
 
-common_angles : (X Y : ℤ) (d e : ℕ) → 0 < d → 0 < e → d ≤ 2 ^ 20 → e ≤ 2 ^ 20 → whole 0 <ℚ X ÷ d → whole 0 <ℚ Y ÷ e → X ÷ d +ℚ Y ÷ e <ℚ whole 1
+common_angles : (X Y : ℤ) (d e : ℕ) → 0 < d → 0 < e → d ≤ 2 ^ 21 → e ≤ 2 ^ 21 → whole 0 ≤ℚ X ÷ d → X ÷ d ≤ℚ whole 1 → whole 0 ≤ℚ Y ÷ e → Y ÷ e ≤ℚ whole 1
     → IsCommon (X ÷ d) (Y ÷ e) (common X Y (pos d) (pos e))
-common_angles X Y d e p q d_small e_small first second third =
+common_angles X Y d e p q d_small e_small x_least x_most y_least y_most =
     let positive : 0 < d * e = mul-pos p q in
-    let small : d * e ≤ 2 ^ 20 * 2 ^ 20 = mul-le-mul d_small e_small in
-    let below : ((X *ℤ pos e +ℤ Y *ℤ pos d) *ℤ pos 1) <ℤ (pos 1 *ℤ pos (d * e)) =
-    over_lt_back (X *ℤ pos e +ℤ Y *ℤ pos d) (pos 1) (d * e) 1 positive (lit< tt) (subst (λ t. t <ℚ whole 1) (over-add X Y d e p q) third)
-    in
-    let first_product = product_nonneg X e (numerator_positive X d p first) in
-    let second_product = product_nonneg Y d (numerator_positive Y e q second) in
+    let small : d * e ≤ 2 ^ 21 * 2 ^ 21 = mul-le-mul d_small e_small in
     record {
       angles = record {
         positive = at_least_one (d * e) positive;
-        small = pos_le (d * e) (2 ^ 40) (omega arith);
-        first = first_product;
-        second = second_product;
-        first_within = first_at_most (X *ℤ pos e) (Y *ℤ pos d) (d * e) second_product below;
-        second_within = second_at_most (X *ℤ pos e) (Y *ℤ pos d) (d * e) first_product below;
+        small = pos_le (d * e) (2 ^ 42) (omega arith);
+        first = product_nonneg X e (numerator_nonneg X d p x_least);
+        second = product_nonneg Y d (numerator_nonneg Y e q y_least);
+        first_within = *ℤ_mono X (pos d) e (numerator_within X d p x_most);
+        second_within = subst (λ n. (Y *ℤ pos d) ≤ℤ pos n) (mul_comm e d) (*ℤ_mono Y (pos e) d (numerator_within Y e q y_most));
       };
       first = over_common X d e p q;
       second = ap (λ t. (Y *ℤ pos d) ÷ t) (mul_comm d e) ∙ over_common Y e d q p;
@@ -72,12 +73,6 @@ common_angles X Y d e p q d_small e_small first second third =
   where
     at_least_one : (n : ℕ) → 0 < n → pos 1 ≤ℤ pos n
     at_least_one n h = omega (arith, ints)
-
-    first_at_most : (y z : ℤ) (n : ℕ) → pos 0 ≤ℤ z → ((y +ℤ z) *ℤ pos 1) <ℤ (pos 1 *ℤ pos n) → y ≤ℤ pos n
-    first_at_most y z n k h = omega (arith, ints)
-
-    second_at_most : (y z : ℤ) (n : ℕ) → pos 0 ≤ℤ y → ((y +ℤ z) *ℤ pos 1) <ℤ (pos 1 *ℤ pos n) → z ≤ℤ pos n
-    second_at_most y z n k h = omega (arith, ints)
 
     mul_comm : (m n : ℕ) → m * n ≡ n * m
     mul_comm m n = omega arith
@@ -96,8 +91,8 @@ abbrev pub kept_common : ℤ → ℤ → ℤ → ℤ → Angles
 kept_common X Y D E = record { first = kept (kept X *ℤ kept E); second = kept (kept Y *ℤ kept D); den = kept (kept D *ℤ kept E) }
 
 pub common_computed : (x y : Written) (X Y D E : ℤ) → X ≡ x.num → Y ≡ y.num → D ≡ pos x.den → E ≡ pos y.den → unsigned_abs X < 2 ^ 60
-    → unsigned_abs Y < 2 ^ 60 → 0 < x.den → 0 < y.den → x.den ≤ 2 ^ 20 → y.den ≤ 2 ^ 20 → IsTriangle x y → IsCommon (value x) (value y) (kept_common X Y D E)
-common_computed x y X Y D E X_is Y_is D_is E_is X_small Y_small positive positive' small small' triangle =
+    → unsigned_abs Y < 2 ^ 60 → 0 < x.den → 0 < y.den → x.den ≤ 2 ^ 21 → y.den ≤ 2 ^ 21 → IsUnitPoint x y → IsCommon (value x) (value y) (kept_common X Y D E)
+common_computed x y X Y D E X_is Y_is D_is E_is X_small Y_small positive positive' small small' point =
     let D_small : unsigned_abs D < 2 ^ 60 = omega (arith, ints) in
     let E_small : unsigned_abs E < 2 ^ 60 = omega (arith, ints) in
     let X_fits = small_fits X X_small in
@@ -109,7 +104,7 @@ common_computed x y X Y D E X_is Y_is D_is E_is X_small Y_small positive positiv
     let den = product_fits D E D_small E_small in
     simp to_z-of_z
     (common_at X Y D E x.num y.num x.den y.den X_is Y_is D_is E_is
-    (common_angles x.num y.num x.den y.den positive positive' small small' triangle.first triangle.second triangle.third))
+    (common_angles x.num y.num x.den y.den positive positive' small small' point.x_least point.x_most point.y_least point.y_most))
 
 -- ---- turns
 
@@ -134,7 +129,7 @@ record IsSmallTurn (m n X Y : ℤ) : Type 0 where
   pub second : unsigned_abs (n *ℤ Y) ≤ 2 ^ 51
   pub all : unsigned_abs (m *ℤ X +ℤ n *ℤ Y) ≤ 2 ^ 52
 
-angle_size : (a : Angles) → IsAngles a → (unsigned_abs a.first ≤ 2 ^ 40) × (unsigned_abs a.second ≤ 2 ^ 40) × (unsigned_abs a.den ≤ 2 ^ 40)
+angle_size : (a : Angles) → IsAngles a → (unsigned_abs a.first ≤ 2 ^ 42) × (unsigned_abs a.second ≤ 2 ^ 42) × (unsigned_abs a.den ≤ 2 ^ 42)
 angle_size a h =
     let positive = h.positive in
     let small = h.small in
@@ -150,8 +145,8 @@ sum_size p q h k = omega (arith, ints)
 small_turn : (m n : ℤ) (a : Angles) → unsigned_abs m ≤ 130 → unsigned_abs n ≤ 130 → IsAngles a → IsSmallTurn m n a.first a.second
 small_turn m n a h k angles =
     let sizes = angle_size a angles in
-    let first : unsigned_abs (m *ℤ a.first) ≤ 130 * 2 ^ 40 = product_size m a.first 130 (2 ^ 40) h sizes.0 in
-    let second : unsigned_abs (n *ℤ a.second) ≤ 130 * 2 ^ 40 = product_size n a.second 130 (2 ^ 40) k sizes.1 in
+    let first : unsigned_abs (m *ℤ a.first) ≤ 130 * 2 ^ 42 = product_size m a.first 130 (2 ^ 42) h sizes.0 in
+    let second : unsigned_abs (n *ℤ a.second) ≤ 130 * 2 ^ 42 = product_size n a.second 130 (2 ^ 42) k sizes.1 in
     let first_small : unsigned_abs (m *ℤ a.first) ≤ 2 ^ 51 = omega arith in
     let second_small : unsigned_abs (n *ℤ a.second) ≤ 2 ^ 51 = omega arith in
     record { first = first_small; second = second_small; all = sum_size (m *ℤ a.first) (n *ℤ a.second) first_small second_small }
@@ -214,13 +209,13 @@ turn_computed dir a z angles small is =
 pub box_angles : (i j level : ℕ) → level ≤ 20 → i < 2 ^ level → j < 2 ^ level
     → IsAngles (record { first = pos (2 * i + 1); second = pos (2 * j + 1); den = pos (2 ^ (level + 1)) })
 box_angles i j level deep column row =
-    let shallow : level + 1 ≤ 40 = omega arith in
-    let small : 2 ^ (level + 1) ≤ 2 ^ 40 = pow_mono shallow in
+    let shallow : level + 1 ≤ 42 = omega arith in
+    let small : 2 ^ (level + 1) ≤ 2 ^ 42 = pow_mono shallow in
     let double : 2 ^ (level + 1) ≡ 2 ^ level * 2 = pow_more 2 level in
     let positive : 0 < 2 ^ (level + 1) = pow_pos (level + 1) in
     record {
       positive = pos_le 1 (2 ^ (level + 1)) (omega arith);
-      small = pos_le (2 ^ (level + 1)) (2 ^ 40) small;
+      small = pos_le (2 ^ (level + 1)) (2 ^ 42) small;
       first = pos_le 0 (2 * i + 1) (omega arith);
       second = pos_le 0 (2 * j + 1) (omega arith);
       first_within = pos_le (2 * i + 1) (2 ^ (level + 1)) (omega arith);

@@ -9,10 +9,10 @@ use Rattle.trig_meaning.specs.Turn.{sine_of_turn}
 use Rattle.trig_meaning.specs.Value.{turn_of}
 use Rattle.gradient_bounds.specs.declared.angles.Angles.{Angles}
 
--- numerators from 0 to the denominator, and a denominator from 1 to 2^40
+-- numerators from 0 to the denominator, and a denominator from 1 to 2^42
 pub record IsAngles (a : Angles) : Type 0 where
   pub positive : pos 1 ≤ℤ a.den
-  pub small : a.den ≤ℤ pos (2 ^ 40)
+  pub small : a.den ≤ℤ pos (2 ^ 42)
   pub first : pos 0 ≤ℤ a.first
   pub second : pos 0 ≤ℤ a.second
   pub first_within : a.first ≤ℤ a.den

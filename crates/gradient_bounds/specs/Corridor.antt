@@ -20,6 +20,17 @@ pub record EachFunction (w : List ℕ) (P : FormalPoint → Type 0) : Type 0 whe
   pub is_shift : IsShift w shift
   pub each : (k l : ℕ) → IsPlace w k → IsPlace w l → P (defining_function shift w k l)
 
+-- the word is stable, it has a shift, and P holds of one of its defining functions
+pub record SomeFunction (w : List ℕ) (P : FormalPoint → Type 0) : Type 0 where
+  pub stable : IsStable w
+  pub shift : FormalPoint
+  pub is_shift : IsShift w shift
+  pub upper : ℕ
+  pub lower : ℕ
+  pub is_upper : IsPlace w upper
+  pub is_lower : IsPlace w lower
+  pub holds : P (defining_function shift w upper lower)
+
 -- The triangle (x, y) has a corridor of the word: every upper corner lies strictly to the left of every lower one.
 abbrev pub HasCorridor : List ℕ → ℚ → ℚ → Type 0
 HasCorridor w x y = EachFunction w (λ f. IsPositiveAt f x y)

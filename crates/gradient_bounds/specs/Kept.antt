@@ -1,29 +1,68 @@
--- What a `Prepared` keeps: each defining function of its word.
+-- What a `Prepared` keeps of its word.
 
-use Rattle.std.specs.Prelude.{◌≡◌, ℕ, ◌+◌, List, length}
-use Rattle.std.specs.Global.{Vec}
+use Rattle.std.specs.Prelude.{◌≡◌, ℕ, zero, suc, ◌+◌, ◌^◌, ◌≤◌, List, [], ◌∷◌, ◌++◌, length, Option, Some, None, ℤ, pos, unsigned_abs}
+use Rattle.std.specs.Prelude.{Bool, false, ◌||◌, if◌then◌else◌}
+use Rattle.std.specs.List.{All}
+use Rattle.rat_core.specs.Written.{Written, value}
 use Rattle.edge_words.specs.Stable.{IsStable}
 use Rattle.edge_words.specs.Word.{IsWord}
-use Rattle.exp_sums.specs.FormalPoint.{FormalPoint}
+use Rattle.exp_sums.specs.declared.direction.Dir.{Dir}
+use Rattle.exp_sums.specs.declared.terms.Term.{Term}
+use Rattle.exp_sums.specs.Terms.{is_same_dir}
+use Rattle.exp_sums.specs.FormalPoint.{FormalPoint, terms, coefficient}
+use Rattle.exp_sums.specs.Limits.{IsNear}
 use Rattle.unfolding.specs.Shift.{IsShift}
-use Rattle.defining_functions.specs.Functions.{defining_function, IsWithinFunctionLimits}
+use Rattle.defining_functions.specs.Heights.{upper_height, lower_height}
 use Rattle.defining_functions.specs.Tables.{IsTable}
+use Rattle.gradient_bounds.specs.declared.most.Most.{Most}
+use Rattle.gradient_bounds.specs.declared.sine_low.SineLow.{SineLow}
+use Rattle.gradient_bounds.specs.Decision.{IsMost}
+use Rattle.gradient_bounds.specs.Table.{IsTableOf, IsLowAt, number_in}
 
--- the function of the k-th upper and the l-th lower corner
-pub record IsFunctionOf (w : List ℕ) (k l : ℕ) (f : FormalPoint) : Type 0 where
-  pub is : (v : FormalPoint) → IsShift w v → f ≡ defining_function v w k l
-  pub limits : IsWithinFunctionLimits f
+-- the table was filled at the point, if at any
+abbrev pub IsFilledAt : ℕ → Option (Written × Written) → List SineLow → Type 0
+IsFilledAt bits None table = Unit {0}
+IsFilledAt bits (Some p) table = All (IsLowAt bits (value p.0) (value p.1)) table
 
--- the functions of the k-th upper corner, by the lower corners
-abbrev pub IsRow : List ℕ → ℕ → List FormalPoint → Type 0
-IsRow w k row = IsTable (λ j f. IsFunctionOf w k (j + 1) f) (length w) row
+-- directions and numbers are so small that sums over a height's terms fit
+pub record IsSmallEntry (e : SineLow) : Type 0 where
+  pub near : IsNear 130 e.dir
+  pub low : unsigned_abs e.low ≤ 2 ^ 62
 
--- all functions, by the upper corners
-abbrev pub AreRows : List ℕ → List (Vec FormalPoint) → Type 0
-AreRows w rows = IsTable (λ i row. IsRow w (i + 1) row.items) (length w) rows
+-- whether a term of the list has the direction
+abbrev pub has_dir : List Term → Dir → Bool
+has_dir [] d = false
+has_dir (t ∷ ts) d = is_same_dir t.dir d || has_dir ts d
+
+-- the point has the coefficient 1 at each direction of the terms, and 0 elsewhere
+abbrev pub IsMarkOf : List Term → FormalPoint → Type 0
+IsMarkOf ts p = (d : Dir) → coefficient p d ≡ (if has_dir ts d then pos 1 else pos 0)
+
+-- the terms of the heights of the first edges
+abbrev pub height_terms : FormalPoint → List ℕ → ℕ → List Term
+height_terms v w zero = []
+height_terms v w (suc i) = height_terms v w i ++ (terms (upper_height v w (suc i)) ++ terms (lower_height v w (suc i)))
+
+-- the number of a height, which depends on the shift
+pub record IsNumberOf (w : List ℕ) (table : List SineLow) (height : FormalPoint → FormalPoint) (z : ℤ) : Type 0 where
+  pub small : unsigned_abs z ≤ 2 ^ 76
+  pub is : (v : FormalPoint) → IsShift w v → z ≡ number_in table (height v)
+
+-- the numbers of the upper heights, from the first edge to the last, and those of the lower ones
+abbrev pub AreUppers : List ℕ → List SineLow → List ℤ → Type 0
+AreUppers w table numbers = IsTable (λ i z. IsNumberOf w table (λ v. upper_height v w (i + 1)) z) (length w) numbers
+
+abbrev pub AreLowers : List ℕ → List SineLow → List ℤ → Type 0
+AreLowers w table numbers = IsTable (λ i z. IsNumberOf w table (λ v. lower_height v w (i + 1)) z) (length w) numbers
 
 -- what a `Prepared` keeps of its word
-pub record IsPrepared (w : List ℕ) (kept : List (Vec FormalPoint)) : Type 0 where
+pub record IsPrepared (bits : ℕ) (w u : List ℕ) (m : Most) (p : Option (Written × Written)) (table : List SineLow) (us ls : List ℤ) : Type 0 where
   pub word : IsWord w
   pub stable : IsStable w
-  pub rows : AreRows w kept
+  pub same_word : u ≡ w
+  pub most : IsMost w m
+  pub directions : IsTableOf w table
+  pub small : All IsSmallEntry table
+  pub filled : IsFilledAt bits p table
+  pub uppers : AreUppers w table us
+  pub lowers : AreLowers w table ls

@@ -8,3 +8,4 @@ pub mod Kept
 pub mod Decision
 pub mod Faults
 pub mod Laws
+pub mod Table

@@ -1,6 +1,6 @@
 //! The angles of a triangle over one denominator.
 ghost use Rattle.std.specs.Prelude.{◌≡◌, ◌^◌, ◌≤◌, unsigned_abs};
-ghost use Rattle.rat_core.specs.Fraction.{whole, ◌÷◌, ◌+ℚ◌, ◌<ℚ◌};
+ghost use Rattle.rat_core.specs.Fraction.{whole, ◌÷◌, ◌≤ℚ◌};
 ghost use Rattle.rat_core.specs.Written.{value};
 ghost use Rattle.exp_sums.specs.Limits.{IsNear};
 ghost use Rattle.trig_meaning.specs.Value.{turn_of};
@@ -17,13 +17,14 @@ pub struct Angles {
     pub den: i128,
 }
 
-/// The triangle (x, y) over the product of the denominators.
+/// The point (x, y) over the product of the denominators.
 pub fn over_one_denominator(x: Frac, y: Frac) -> Angles
-    requires first { whole 0 <ℚ value x }
-    requires second { whole 0 <ℚ value y }
-    requires third { value x +ℚ value y <ℚ whole 1 }
-    requires x_denominator { x.den ≤ 2 ^ 20 }
-    requires y_denominator { y.den ≤ 2 ^ 20 }
+    requires x_least { whole 0 ≤ℚ value x }
+    requires x_most { value x ≤ℚ whole 1 }
+    requires y_least { whole 0 ≤ℚ value y }
+    requires y_most { value y ≤ℚ whole 1 }
+    requires x_denominator { x.den ≤ 2 ^ 21 }
+    requires y_denominator { y.den ≤ 2 ^ 21 }
     ensures angles { IsAngles result }
     ensures first { first_angle result ≡ value x }
     ensures second { second_angle result ≡ value y }

@@ -6,17 +6,21 @@
 #![tactic(auto)]
 
 mod angles;
-mod clear;
+mod bounds;
 mod decision;
+mod directions;
 mod extremes;
 mod fault;
-mod functions;
+mod filled;
+mod height_numbers;
 pub mod laws;
 mod most;
 mod neighbourhood;
 mod prepared;
-mod sines;
+mod sine_low;
+mod table;
 mod thresholds;
 
 pub use fault::PrepareFault;
 pub use prepared::Prepared;
+pub use sine_low::SineLow;

@@ -1,5 +1,5 @@
 //! Neighbourhoods in the angle plane: points and boxes.
-ghost use Rattle.std.specs.Prelude.{◌≡◌, ◌^◌, ◌≤◌};
+ghost use Rattle.std.specs.Prelude.{◌≡◌, ◌+◌, ◌^◌, ◌≤◌, pos};
 ghost use Rattle.rat_core.specs.Fraction.{whole, ◌+ℚ◌, ◌<ℚ◌};
 ghost use Rattle.rat_core.specs.Written.{value};
 ghost use Rattle.rational_polygon.specs.Square.{centre, half_side};
@@ -26,6 +26,7 @@ pub fn point(x: Frac, y: Frac) -> Neighbourhood
     requires y_denominator { y.den ≤ 2 ^ 20 }
     ensures neighbourhood { IsNeighbourhood result }
     ensures ball { ball_of result ≡ record { x = value x; y = value y; radius = whole 0 } }
+    ensures radius { result.radius ≡ pos 0 }
 {
     Neighbourhood {
         centre: over_one_denominator(x, y),
@@ -37,6 +38,8 @@ pub fn point(x: Frac, y: Frac) -> Neighbourhood
 pub fn square(place: GridBox) -> Neighbourhood
     ensures neighbourhood { IsNeighbourhood result }
     ensures ball { ball_of result ≡ record { x = (centre place).x; y = (centre place).y; radius = half_side place } }
+    ensures radius { result.radius ≡ pos 1 }
+    ensures denominator { result.centre.den ≡ pos (2 ^ (place.level + 1)) }
 {
     let (x, y) = place.centre();
     Neighbourhood {

@@ -1,55 +1,84 @@
 //! A stable word that is ready for tests.
-ghost use Rattle.std.specs.Prelude.{◌≡◌, ◌↔◌, ◌^◌, ◌≤◌, IsTrue, IfOk, IsErrOf};
-ghost use Rattle.rat_core.specs.Fraction.{whole, ◌+ℚ◌, ◌<ℚ◌};
+ghost use Rattle.std.specs.Prelude.{◌≡◌, ◌↔◌, ◌^◌, ◌≤◌, Some, None, IsTrue, IsSome, IfSome, IfOk, IsErrOf};
+ghost use Rattle.std.specs.List.{All};
+ghost use Rattle.rat_core.specs.Fraction.{whole, ◌+ℚ◌, ◌≤ℚ◌, ◌<ℚ◌};
 ghost use Rattle.rat_core.specs.Written.{value};
+ghost use Rattle.edge_words.specs.Letters.{IsPlace};
 ghost use Rattle.edge_words.specs.Stable.{IsStable};
+ghost use Rattle.exp_sums.specs.FormalPoint.{FormalPoint};
+ghost use Rattle.trig_meaning.specs.FromSomeOn.{FromSomeOn};
+ghost use Rattle.trig_meaning.specs.Value.{value_at};
+ghost use Rattle.unfolding.specs.Shift.{IsShift, HasShift};
 ghost use Rattle.rational_polygon.specs.Point.{Point};
-ghost use Rattle.rational_polygon.specs.Square.{IsInBox};
-ghost use Rattle.gradient_bounds.specs.Corridor.{EachFunction, HasCorridor};
+ghost use Rattle.rational_polygon.specs.Square.{IsInBox, centre};
+ghost use Rattle.directed_fixed.specs.Ends.{Encloses};
+ghost use Rattle.defining_functions.specs.Functions.{defining_function};
+ghost use Rattle.defining_functions.specs.Heights.{upper_height, lower_height};
+ghost use Rattle.gradient_bounds.specs.Corridor.{EachFunction, SomeFunction, HasCorridor};
 ghost use Rattle.gradient_bounds.specs.Clear.{slack, IsClearAtPoint, IsClear, IsShut};
-ghost use Rattle.gradient_bounds.specs.Neighbourhood.{IsNeighbourhood, ball_of, IsClearIn};
+ghost use Rattle.gradient_bounds.specs.Table.{IsTableOf, IsLowAt, bounds_in, centre_of, box_drift, no_drift, LowerEndReaches, UpperEndFalls};
 ghost use Rattle.gradient_bounds.specs.declared.fault.PrepareFault.TheVariants.{Unstable};
 
-use crate::clear::{are_clear, has_shut};
+use crate::angles::over_one_denominator;
+use crate::bounds::around;
+use crate::decision::{each_reaches, some_falls_below};
+use crate::directions::blank_table;
 use crate::fault::PrepareFault;
-use crate::functions::rows;
-use crate::neighbourhood::{Neighbourhood, point, square};
+use crate::filled::is_at;
+use crate::height_numbers::{number_lowers, number_uppers, zeros};
+use crate::most::{Most, most_of};
+use crate::neighbourhood::{point, square};
+use crate::sine_low::SineLow;
+use crate::table::fill;
 use defining_functions::Functions;
-use directed_fixed::Scale;
+use directed_fixed::{Interval, Scale};
 use edge_words::Word;
-use exp_sums::ExpSum;
 use rat_core::Frac;
 use rational_polygon::GridBox;
 use std::alloc::Global;
 use std::marker::{Model, PhantomData};
 use unfolding::Unfolding;
 
-/// A stable word with its defining functions, for tests at the scale `S`.
+/// A stable word with its functions and a table of sines, for tests at the scale `S`.
 ///
 /// Only `new` takes memory.
 #[derive(Drop)]
 pub struct Prepared<S: Scale> {
     word: Word,
-    rows: Vec<Vec<ExpSum>>,
+    functions: Functions,
+    /// The largest of the functions.
+    most: Most,
+    /// Where the table was filled last.
+    point: Option<(Frac, Frac)>,
+    table: Vec<SineLow>,
+    /// The numbers of the upper heights by the table, for each edge.
+    uppers: Vec<i128>,
+    /// The numbers of the lower heights.
+    lowers: Vec<i128>,
+    /// How many sines were computed.
+    sines: u64,
     scale: PhantomData<S>,
 }
 
 impl<S: Scale> Model for Prepared<S> {
-    ghost use Rattle.std.specs.Prelude.{List, ℕ};
+    ghost use Rattle.gradient_bounds.specs.Table.{PreparedWord};
+
+    ghost Value = { PreparedWord };
+
     ghost use Rattle.gradient_bounds.specs.Kept.{IsPrepared};
 
-    ghost Value = { List ℕ };
+    ghost view = { λ p. record { word = p.word; point = p.point; table = p.table.items } };
 
-    ghost view = { λ p. p.word };
-
-    ghost invariant = { λ p. IsPrepared p.word p.rows.items };
+    ghost invariant = { λ p. IsPrepared S.BITS p.word p.functions p.most p.point p.table.items p.uppers.items p.lowers.items };
 }
 
 impl<S: Scale> Prepared<S> {
-    /// Makes the functions of a word. A word that is not stable is refused before memory is taken.
+    /// Makes the functions of a word, and a table that is not filled yet. A word that is not stable is refused before
+    /// memory is taken.
     pub fn new(alloc: Global, word: &Word) -> Result<Prepared<S>, PrepareFault>
-        ensures word { IfOk result (λ prepared. prepared ≡ word.now) }
-        ensures stable { IfOk result (λ prepared. IsStable prepared) }
+        ensures word { IfOk result (λ prepared. prepared.word ≡ word.now) }
+        ensures point { IfOk result (λ prepared. prepared.point ≡ None) }
+        ensures stable { IfOk result (λ prepared. IsStable prepared.word) }
         ensures unstable { IsErrOf result Unstable ↔ ¬ (IsStable word.now) }
     {
         if !word.is_stable() {
@@ -57,23 +86,130 @@ impl<S: Scale> Prepared<S> {
         }
         let unfolding = Unfolding::of(alloc, word)?;
         let functions = Functions::of(alloc, &unfolding)?;
-        let rows = rows(alloc, &functions)?;
+        let table = blank_table(alloc, &functions)?;
+        let mut uppers = zeros(alloc, functions.letters())?;
+        let mut lowers = zeros(alloc, functions.letters())?;
+        number_uppers(&mut uppers, &functions, &table);
+        number_lowers(&mut lowers, &functions, &table);
         Ok(Prepared {
             word: word.copied(),
-            rows,
+            most: most_of(&functions),
+            functions,
+            point: None,
+            table,
+            uppers,
+            lowers,
+            sines: 0,
             scale: PhantomData,
         })
     }
 
     /// The word.
     pub fn word(&self) -> &Word
-        ensures word { result.now ≡ self.now }
-        ensures stable { IsStable self.now }
+        ensures word { result.now ≡ self.now.word }
+        ensures stable { IsStable self.now.word }
     {
         &self.word
     }
 
-    /// Whether the triangle (x, y) is seen to have a corridor of the word.
+    /// The functions of the word.
+    pub fn functions(&self) -> &Functions
+        ensures { result.now ≡ self.now.word }
+    {
+        &self.functions
+    }
+
+    /// Fills the table at (x, y).
+    pub fn fill(&mut self, x: Frac, y: Frac)
+        requires x_least { whole 0 ≤ℚ value x }
+        requires x_most { value x ≤ℚ whole 1 }
+        requires y_least { whole 0 ≤ℚ value y }
+        requires y_most { value y ≤ℚ whole 1 }
+        requires x_denominator { x.den ≤ 2 ^ 21 }
+        requires y_denominator { y.den ≤ 2 ^ 21 }
+        ensures word { self.new.word ≡ self.old.word }
+        ensures point { self.new.point ≡ Some (x, y) }
+    {
+        let at = over_one_denominator(x, y);
+        fill::<S>(&mut self.table, &at);
+        self.sines = self.sines.saturating_add(self.table.len() as u64);
+        number_uppers(&mut self.uppers, &self.functions, &self.table);
+        number_lowers(&mut self.lowers, &self.functions, &self.table);
+        self.point = Some((x, y));
+    }
+
+    /// The point at which the table was filled last, if it was.
+    pub fn point(&self) -> Option<(Frac, Frac)>
+        ensures { result ≡ self.now.point }
+    {
+        self.point
+    }
+
+    /// The table: the directions of the heights' terms, by rising m and then n, with numbers for their sines at the point.
+    pub fn table(&self) -> &[SineLow]
+        requires { IsSome self.now.point }
+        ensures table { result.now ≡ self.now.table }
+        ensures directions { IsTableOf self.now.word result.now }
+        ensures lows { IfSome self.now.point (λ p. All (IsLowAt S.BITS (value p.0) (value p.1)) result.now) }
+    {
+        &self.table
+    }
+
+    /// What the function of the k-th upper and the l-th lower corner lies in at the point: its number by the table, less
+    /// and more 256 units for each unit of the function's weight.
+    pub fn bounds(&self, k: u32, l: u32) -> Interval<S>
+        requires filled { IsSome self.now.point }
+        requires upper { IsPlace self.now.word k }
+        requires lower { IsPlace self.now.word l }
+        ensures shift { HasShift self.now.word }
+
+        // with the one shift of the word
+        ensures ends { (v : FormalPoint) → IsShift self.now.word v → result ≡ bounds_in self.now.table (defining_function v self.now.word k l) }
+        ensures holds { IfSome self.now.point (λ p. (v : FormalPoint) → IsShift self.now.word v
+            → FromSomeOn (λ n. Encloses S.BITS result (value_at n (defining_function v self.now.word k l) (value p.0) (value p.1)))) }
+    {
+        around::<S>(
+            self.uppers[k as usize - 1] - self.lowers[l as usize - 1],
+            self.functions.weight(k, l),
+        )
+    }
+
+    /// What the height of the k-th upper corner lies in at the point.
+    pub fn upper_bounds(&self, k: u32) -> Interval<S>
+        requires filled { IsSome self.now.point }
+        requires place { IsPlace self.now.word k }
+        ensures shift { HasShift self.now.word }
+        ensures ends { (v : FormalPoint) → IsShift self.now.word v → result ≡ bounds_in self.now.table (upper_height v self.now.word k) }
+        ensures holds { IfSome self.now.point (λ p. (v : FormalPoint) → IsShift self.now.word v
+            → FromSomeOn (λ n. Encloses S.BITS result (value_at n (upper_height v self.now.word k) (value p.0) (value p.1)))) }
+    {
+        around::<S>(
+            self.uppers[k as usize - 1],
+            self.functions.upper_height(k).weight(),
+        )
+    }
+
+    /// What the height of the l-th lower corner lies in at the point.
+    pub fn lower_bounds(&self, l: u32) -> Interval<S>
+        requires filled { IsSome self.now.point }
+        requires place { IsPlace self.now.word l }
+        ensures shift { HasShift self.now.word }
+        ensures ends { (v : FormalPoint) → IsShift self.now.word v → result ≡ bounds_in self.now.table (lower_height v self.now.word l) }
+        ensures holds { IfSome self.now.point (λ p. (v : FormalPoint) → IsShift self.now.word v
+            → FromSomeOn (λ n. Encloses S.BITS result (value_at n (lower_height v self.now.word l) (value p.0) (value p.1)))) }
+    {
+        around::<S>(
+            self.lowers[l as usize - 1],
+            self.functions.lower_height(l).weight(),
+        )
+    }
+
+    /// How many sines were computed since `new`. At its last value the number stands.
+    pub fn sines(&self) -> u64 {
+        self.sines
+    }
+
+    /// Whether the triangle (x, y) is seen to have a corridor of the word, by the table at (x, y).
     ///
     /// It is true only where each function is clear with the narrower slack of the scale, and true wherever each is
     /// clear with the wider one.
@@ -83,15 +219,24 @@ impl<S: Scale> Prepared<S> {
         requires third { value x +ℚ value y <ℚ whole 1 }
         requires x_denominator { x.den ≤ 2 ^ 20 }
         requires y_denominator { y.den ≤ 2 ^ 20 }
-        ensures word { self.new ≡ self.old }
-        ensures clear { IsTrue result → IsClearAtPoint self.old (value x) (value y) (slack S.LOW_BITS) }
-        ensures found { IsClearAtPoint self.old (value x) (value y) (slack S.HIGH_BITS) → IsTrue result }
-        ensures corridor { IsTrue result → HasCorridor self.old (value x) (value y) }
+        ensures word { self.new.word ≡ self.old.word }
+        ensures point { self.new.point ≡ Some (x, y) }
+        ensures decided { IsTrue result ↔ EachFunction self.new.word (LowerEndReaches S.BITS S.LOW_BITS no_drift self.new.table) }
+        ensures clear { IsTrue result → IsClearAtPoint self.old.word (value x) (value y) (slack S.LOW_BITS) }
+        ensures found { IsClearAtPoint self.old.word (value x) (value y) (slack S.HIGH_BITS) → IsTrue result }
+        ensures corridor { IsTrue result → HasCorridor self.old.word (value x) (value y) }
     {
-        self.is_clear_in(&point(x, y))
+        self.move_to(x, y);
+        each_reaches::<S>(
+            &self.functions,
+            &self.uppers,
+            &self.lowers,
+            &self.most,
+            &point(x, y),
+        )
     }
 
-    /// Whether the word is seen to have a corridor at every point of the box, by the functions at its centre alone.
+    /// Whether the word is seen to have a corridor at every point of the box, by the table at its centre alone.
     ///
     /// A sine of pi times t changes by at most pi times the change of t, so from the centre to another point of the box
     /// a function changes by at most its drift: pi times its reach times half the side. The answer is true only where
@@ -99,42 +244,60 @@ impl<S: Scale> Prepared<S> {
     /// with the wider one. Source: the gradient bounds of Richard Evan Schwartz, Obtuse Triangular Billiards I: Near the
     /// (2, 3, 6) Triangle, Experimental Mathematics 15 (2006).
     pub fn test_box(&mut self, place: GridBox) -> bool
-        ensures word { self.new ≡ self.old }
-        ensures clear { IsTrue result → IsClear self.old place (slack S.LOW_BITS) }
-        ensures found { IsClear self.old place (slack S.HIGH_BITS) → IsTrue result }
-        ensures corridor { IsTrue result → (p : Point) → IsInBox place p → HasCorridor self.old p.x p.y }
+        ensures word { self.new.word ≡ self.old.word }
+        ensures point { self.new.point ≡ Some (centre_of place) }
+        ensures decided { IsTrue result ↔ EachFunction self.new.word (LowerEndReaches S.BITS S.LOW_BITS (box_drift S.PI_HI place) self.new.table) }
+        ensures clear { IsTrue result → IsClear self.old.word place (slack S.LOW_BITS) }
+        ensures found { IsClear self.old.word place (slack S.HIGH_BITS) → IsTrue result }
+        ensures corridor { IsTrue result → (p : Point) → IsInBox place p → HasCorridor self.old.word p.x p.y }
     {
-        self.is_clear_in(&square(place))
+        self.move_to_centre(place);
+        each_reaches::<S>(
+            &self.functions,
+            &self.uppers,
+            &self.lowers,
+            &self.most,
+            &square(place),
+        )
     }
 
     /// Whether the word is seen to have a corridor at no point of the box: one function is as far below 0 at the centre
     /// as `test_box` wants each above 0. The slacks are those of `test_box`, and so is the source.
     pub fn shut_box(&mut self, place: GridBox) -> bool
-        ensures word { self.new ≡ self.old }
-        ensures shut { IsTrue result → IsShut self.old place (slack S.LOW_BITS) }
-        ensures found { IsShut self.old place (slack S.HIGH_BITS) → IsTrue result }
-        ensures no_corridor { IsTrue result → (p : Point) → IsInBox place p → ¬ (HasCorridor self.old p.x p.y) }
+        ensures word { self.new.word ≡ self.old.word }
+        ensures point { self.new.point ≡ Some (centre_of place) }
+        ensures decided { IsTrue result ↔ SomeFunction self.new.word (UpperEndFalls S.BITS S.LOW_BITS (box_drift S.PI_HI place) self.new.table) }
+        ensures shut { IsTrue result → IsShut self.old.word place (slack S.LOW_BITS) }
+        ensures found { IsShut self.old.word place (slack S.HIGH_BITS) → IsTrue result }
+        ensures no_corridor { IsTrue result → (p : Point) → IsInBox place p → ¬ (HasCorridor self.old.word p.x p.y) }
     {
-        let neighbourhood = square(place);
-        for row in &self.rows {
-            if has_shut::<S>(row.as_slice(), &neighbourhood) {
-                return true;
-            }
-        }
-        false
+        self.move_to_centre(place);
+        some_falls_below::<S>(&self.functions, &self.uppers, &self.lowers, &square(place))
     }
 
-    /// Whether each function is seen to be clear in the neighbourhood.
-    fn is_clear_in(&self, neighbourhood: &Neighbourhood) -> bool
-        requires { IsNeighbourhood neighbourhood.now }
-        ensures clear { IsTrue result → EachFunction self.now (IsClearIn (ball_of neighbourhood.now) (slack S.LOW_BITS)) }
-        ensures found { EachFunction self.now (IsClearIn (ball_of neighbourhood.now) (slack S.HIGH_BITS)) → IsTrue result }
+    /// Fills the table at the centre of the box, unless it was filled there last.
+    fn move_to_centre(&mut self, place: GridBox)
+        ensures word { self.new.word ≡ self.old.word }
+        ensures point { self.new.point ≡ Some (centre_of place) }
+        ensures centre { record { x = value (centre_of place).0; y = value (centre_of place).1 } ≡ centre place }
     {
-        for row in &self.rows {
-            if !are_clear::<S>(row.as_slice(), neighbourhood) {
-                return false;
-            }
+        let (x, y) = place.centre();
+        self.move_to(x, y);
+    }
+
+    /// Fills the table at (x, y), unless it was filled there last.
+    fn move_to(&mut self, x: Frac, y: Frac)
+        requires x_least { whole 0 ≤ℚ value x }
+        requires x_most { value x ≤ℚ whole 1 }
+        requires y_least { whole 0 ≤ℚ value y }
+        requires y_most { value y ≤ℚ whole 1 }
+        requires x_denominator { x.den ≤ 2 ^ 21 }
+        requires y_denominator { y.den ≤ 2 ^ 21 }
+        ensures word { self.new.word ≡ self.old.word }
+        ensures point { self.new.point ≡ Some (x, y) }
+    {
+        if !is_at(&self.point, &x, &y) {
+            self.fill(x, y);
         }
-        true
     }
 }

@@ -7,7 +7,7 @@ computed c =
     common_computed c.args.x c.args.y c.num.result c.num-2.result c.den-x_den.result c.den-y_den.result c.num.ensures.value c.num-2.ensures.value
     c.den-x_den.ensures.value c.den-y_den.ensures.value c.num.ensures.small c.num-2.ensures.small
     c.den-x_den.ensures.positive c.den-y_den.ensures.positive c.requires.x_denominator c.requires.y_denominator
-    (record { first = c.requires.first; second = c.requires.second; third = c.requires.third })
+    (record { x_least = c.requires.x_least; x_most = c.requires.x_most; y_least = c.requires.y_least; y_most = c.requires.y_most })
 
 pub returns-clause-angles : goal.returns-clause-angles
 returns-clause-angles c = (computed c).angles

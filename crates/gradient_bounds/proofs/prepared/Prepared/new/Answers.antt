@@ -1,10 +1,12 @@
-use Rattle.std.proofs.Common.{sym, ap, subst}
+use Rattle.std.proofs.Common.{◌≡◌, sym, ap, subst, length, drop, arith}
 use Rattle.std.specs.Prelude.{Err}
-use Rattle.edge_words.specs.Word.{IsWord}
+use Rattle.std.proofs.lemmas.List.{take_at}
 use Rattle.std.proofs.lemmas.Result.{err_from_is_err_and}
 use Rattle.edge_words.specs.Stable.{IsStable}
-use Rattle.gradient_bounds.proofs.Rows.{prepared_from}
+use Rattle.edge_words.specs.Word.{IsWord}
+use Rattle.gradient_bounds.specs.Kept.{AreUppers, AreLowers}
 use Rattle.gradient_bounds.proofs.Refusals.{refused_by_memory, refused_by_functions, not_refused}
+use Rattle.gradient_bounds.proofs.Tests.{prepared_from}
 use Rattle.gradient_bounds.proofs.prepared.Prepared.new.Goals as goal
 
 pub returns-in_err-unfolding-clause-unstable : goal.returns-in_err-unfolding-clause-unstable
@@ -21,19 +23,42 @@ returns-in_err-functions-clause-unstable g c =
     refused_by_functions c.args.word.now c.from_residual-in_err-functions.result refused.0 c.in_err-functions.field-0.0 stable refused.1 refused.2
     (λ is. c.in_err-functions.ensures.not_translate.0 (ap Err is) shift)
 
-pub returns-in_err-rows-clause-unstable : goal.returns-in_err-rows-clause-unstable
-returns-in_err-rows-clause-unstable g c =
+pub returns-in_err-table-clause-unstable : goal.returns-in_err-table-clause-unstable
+returns-in_err-table-clause-unstable g c =
     let stable : IsStable c.args.word.now = c.is_stable.ensures.0 c.if-not-is_stable.false in
-    let refused = err_from_is_err_and c.from_residual-in_err-rows.result c.from_residual-in_err-rows.ensures.1 in
-    refused_by_memory c.args.word.now c.from_residual-in_err-rows.result refused.0 stable refused.1 refused.2
+    let refused = err_from_is_err_and c.from_residual-in_err-table.result c.from_residual-in_err-table.ensures.1 in
+    refused_by_memory c.args.word.now c.from_residual-in_err-table.result refused.0 stable refused.1 refused.2
+
+pub returns-in_err-uppers-clause-unstable : goal.returns-in_err-uppers-clause-unstable
+returns-in_err-uppers-clause-unstable g c =
+    let stable : IsStable c.args.word.now = c.is_stable.ensures.0 c.if-not-is_stable.false in
+    let refused = err_from_is_err_and c.from_residual-in_err-uppers.result c.from_residual-in_err-uppers.ensures.1 in
+    refused_by_memory c.args.word.now c.from_residual-in_err-uppers.result refused.0 stable refused.1 refused.2
+
+pub returns-in_err-lowers-clause-unstable : goal.returns-in_err-lowers-clause-unstable
+returns-in_err-lowers-clause-unstable g c =
+    let stable : IsStable c.args.word.now = c.is_stable.ensures.0 c.if-not-is_stable.false in
+    let refused = err_from_is_err_and c.from_residual-in_err-lowers.result c.from_residual-in_err-lowers.ensures.1 in
+    refused_by_memory c.args.word.now c.from_residual-in_err-lowers.result refused.0 stable refused.1 refused.2
 
 pub invariant_of-result : goal.invariant_of-result
 invariant_of-result g c =
     let w = c.args.word.now in
     let stable : IsStable w = c.is_stable.ensures.0 c.if-not-is_stable.false in
-    prepared_from w c.copied.result c.in_ok-unfolding.unfolding c.in_ok-functions.functions c.in_ok-rows.rows.items c.copied.ensures
-    c.in_ok-unfolding.ensures.word c.in_ok-functions.ensures.word
-    (subst IsWord c.unfolding.view_is c.unfolding.invariant.word) stable c.in_ok-rows.ensures
+    let f = c.in_ok-functions.functions in
+    let uppers = c.in_ok-uppers.uppers in
+    let lowers = c.in_ok-lowers.lowers in
+    let us_len : length c.number_uppers.new.numbers ≡ uppers.len =
+    omega (arith, c.number_uppers.ensures.count, c.in_ok-uppers.ensures, c.letters.ensures.count, uppers.ok.0) in
+    let ls_len : length c.number_lowers.new.numbers ≡ lowers.len =
+    omega (arith, c.number_lowers.ensures.count, c.in_ok-lowers.ensures, c.letters-2.ensures.count, lowers.ok.0) in
+    prepared_from g.S.Scale.BITS w c.copied.result c.in_ok-unfolding.unfolding f c.most_of.result c.in_ok-table.table.items _ _ c.number_uppers.new.numbers
+    c.number_lowers.new.numbers c.copied.ensures c.in_ok-unfolding.ensures.word c.in_ok-functions.ensures.word
+    (subst IsWord c.unfolding.view_is c.unfolding.invariant.word) stable c.most_of.ensures c.in_ok-table.ensures.directions c.in_ok-table.ensures.small
+    (subst (λ es. AreUppers f es c.number_uppers.new.numbers) c.deref.ensures.value c.number_uppers.ensures)
+    (subst (λ es. AreLowers f es c.number_lowers.new.numbers) c.deref-2.ensures.value c.number_lowers.ensures)
+    (take_at c.number_uppers.new.numbers (drop (length c.number_uppers.new.numbers) uppers.items) uppers.len us_len)
+    (take_at c.number_lowers.new.numbers (drop (length c.number_lowers.new.numbers) lowers.items) lowers.len ls_len)
 
 pub returns-clause-stable : goal.returns-clause-stable
 returns-clause-stable g c =
@@ -44,4 +69,4 @@ returns-clause-stable g c =
 pub returns-clause-unstable : goal.returns-clause-unstable
 returns-clause-unstable g c =
     let stable : IsStable c.args.word.now = c.is_stable.ensures.0 c.if-not-is_stable.false in
-    not_refused c.args.word.now c.copied.result stable
+    not_refused c.args.word.now _ stable

@@ -1,56 +1,61 @@
-use Rattle.std.proofs.Common.{◌≡◌, refl, sym, subst, subst₂, ◌<◌, false, List, length, slice_index_or}
-use Rattle.std.specs.Global.{Vec}
-use Rattle.std.specs.Prelude.{IsTrue}
-use Rattle.std.specs.List.{All, Any}
-use Rattle.std.proofs.lemmas.List.{take_all}
-use Rattle.std.proofs.lemmas.List.Elements.{All-more}
-use Rattle.exp_sums.specs.FormalPoint.{FormalPoint}
-use Rattle.gradient_bounds.specs.Clear.{slack, IsShut}
-use Rattle.gradient_bounds.specs.Neighbourhood.{ball_of, IsShutIn}
-use Rattle.gradient_bounds.proofs.Margins.{slack_positive}
-use Rattle.gradient_bounds.proofs.Rows.{SomeFunction, some_from_row, none_in_rows}
+use Rattle.std.proofs.Common.{sym, ap, subst₂, ◌∙◌}
+use Rattle.rational_polygon.specs.Point.{Point}
+use Rattle.gradient_bounds.specs.Corridor.{SomeFunction}
+use Rattle.gradient_bounds.specs.Clear.{slack}
+use Rattle.gradient_bounds.specs.Neighbourhood.{Ball, IsShutIn}
+use Rattle.gradient_bounds.specs.Table.{centre_of, box_drift}
 use Rattle.gradient_bounds.proofs.Boxes.{some_of_shut, shut_of_some, shut_gives_no_corridor_lem}
+use Rattle.gradient_bounds.proofs.Margins.{slack_positive}
+use Rattle.gradient_bounds.proofs.Tested.{box_drift_is}
+use Rattle.gradient_bounds.proofs.Tests.{IsSomeTest, numbers_up, numbers_low, some_test}
+use Rattle.gradient_bounds.proofs.Numbers.{IsScale}
 use Rattle.gradient_bounds.proofs.prepared.Prepared.shut_box.Given as given
 use Rattle.gradient_bounds.proofs.prepared.Prepared.shut_box.Goals as goal
 
-is_shut : (g : given.Over) (c : goal.Then-has_shut g) → IsShut c.args.self.now c.args.place (slack g.S.Scale.LOW_BITS)
-is_shut g c =
-    let low = slack g.S.Scale.LOW_BITS in
-    let P = IsShutIn (ball_of c.square-neighbourhood.result) low in
-    let row = c.row-item.result in
-    let rows : List (Vec FormalPoint) = c.self.inside.rows.items in
-    let same : c.deref-row-items.result.now ≡ rows = c.deref-row-items.ensures.value in
-    let below : c.loop-row.row-index < length rows = subst (λ (rs : List (Vec FormalPoint)). c.loop-row.row-index < length rs) same c.loop-row-test.true in
-    let is : row ≡ slice_index_or rows c.loop-row.row-index row = subst
-    (λ (rs : List (Vec FormalPoint)). row ≡ slice_index_or rs c.loop-row.row-index row) same c.row-item.is in
-    let here : Any P row.items = subst (Any P) c.as_slice.ensures.value (c.if-has_shut.ensures.shut refl) in
-    let some : SomeFunction c.self.inside.word P = some_from_row P c.self.inside.word rows c.loop-row.row-index row c.self.invariant below is here in
-    shut_of_some c.args.self.now c.args.place low (subst₂ (λ w b. SomeFunction w (IsShutIn b low)) c.self.view_is c.square-neighbourhood.ensures.ball some)
+scale : (g : given.Over) → IsScale g.S.Scale.BITS g.S.Scale.LOW_BITS g.S.Scale.HIGH_BITS g.S.Scale.PI_LO g.S.Scale.PI_HI
+scale g = record { one_unit = g.S.Scale.one_unit; pi = g.S.Scale.pi_between; apart = g.S.Scale.slacks.0; room = g.S.Scale.slacks.1 }
 
-pub returns-then-has_shut-clause-shut : goal.returns-then-has_shut-clause-shut
-returns-then-has_shut-clause-shut g c = λ _. is_shut g c
+pub some_falls_below-requires-clause-uppers : goal.some_falls_below-requires-clause-uppers
+some_falls_below-requires-clause-uppers g c =
+    let i = c.self.inside in
+    numbers_up g.S.Scale.BITS g.S.Scale.LOW_BITS g.S.Scale.HIGH_BITS g.S.Scale.PI_LO g.S.Scale.PI_HI (scale g) i.word i.functions i.most i.point i.table.items
+    i.uppers.items i.lowers.items c.deref.result.now c.deref-2.result.now c.self.invariant c.deref.ensures.value c.deref-2.ensures.value
 
-pub returns-then-has_shut-clause-no_corridor : goal.returns-then-has_shut-clause-no_corridor
-returns-then-has_shut-clause-no_corridor g c = λ _. shut_gives_no_corridor_lem c.args.self.now c.args.place (slack g.S.Scale.LOW_BITS)
-    (slack_positive g.S.Scale.LOW_BITS) (is_shut g c)
+pub some_falls_below-requires-clause-lowers : goal.some_falls_below-requires-clause-lowers
+some_falls_below-requires-clause-lowers g c =
+    let i = c.self.inside in
+    numbers_low g.S.Scale.BITS g.S.Scale.LOW_BITS g.S.Scale.HIGH_BITS g.S.Scale.PI_LO g.S.Scale.PI_HI (scale g) i.word i.functions i.most i.point i.table.items
+    i.uppers.items i.lowers.items c.deref.result.now c.deref-2.result.now c.self.invariant c.deref.ensures.value c.deref-2.ensures.value
 
-pub loop-row-preserved : goal.loop-row-preserved
-loop-row-preserved g c =
-    let P = IsShutIn (ball_of c.square-neighbourhood.result) (slack g.S.Scale.HIGH_BITS) in
-    let R = λ (row : Vec FormalPoint). ¬ Any P row.items in
-    let here : R c.row-item.result = λ any. let found : IsTrue false = c.if-has_shut.ensures.found (subst (Any P) (sym c.as_slice.ensures.value) any) in cc in
-    All-more R c.deref-row-items.result.now c.loop-row.row-index c.row-item.result c.loop-row-test.true c.loop-row.invariant (subst R c.row-item.is here)
+is : (g : given.Over) (c : goal.After-some_falls_below g)
+    → IsSomeTest g.S.Scale.BITS g.S.Scale.LOW_BITS g.S.Scale.HIGH_BITS g.S.Scale.PI_HI c.self.inside.functions c.deref.result.now c.deref-2.result.now c.square.result
+    (box_drift g.S.Scale.PI_HI c.args.place) c.move_to_centre.new.self
+is g c =
+    let i = c.self.inside in
+    let r = c.square.result in
+    let near = c.square.ensures.neighbourhood in
+    some_test g.S.Scale.BITS g.S.Scale.LOW_BITS g.S.Scale.HIGH_BITS g.S.Scale.PI_LO g.S.Scale.PI_HI (scale g) i.word i.functions i.most i.point i.table.items
+    i.uppers.items i.lowers.items c.deref.result.now c.deref-2.result.now c.self.invariant c.deref.ensures.value c.deref-2.ensures.value c.move_to_centre.new.self
+    c.self.view_is (centre_of c.args.place).0 (centre_of c.args.place).1 c.move_to_centre.ensures.point r near (ap (λ (b : Ball). b.x) c.square.ensures.ball ∙ sym (ap (λ (q : Point). q.x) c.move_to_centre.ensures.centre))
+    (ap (λ (b : Ball). b.y) c.square.ensures.ball ∙ sym (ap (λ (q : Point). q.y) c.move_to_centre.ensures.centre))
+    (box_drift g.S.Scale.PI_HI c.args.place) (box_drift_is g.S.Scale.PI_HI c.args.place r c.square.ensures.radius c.square.ensures.denominator)
+
+pub returns-clause-decided : goal.returns-clause-decided
+returns-clause-decided g c = (λ t. (is g c).decided.0 (c.some_falls_below.ensures.0 t), λ e. c.some_falls_below.ensures.1 ((is g c).decided.1 e))
+
+pub returns-clause-shut : goal.returns-clause-shut
+returns-clause-shut g c =
+    λ passed. shut_of_some c.args.self.now.word c.args.place (slack g.S.Scale.LOW_BITS)
+    (subst₂ (λ w b. SomeFunction w (IsShutIn b (slack g.S.Scale.LOW_BITS))) c.move_to_centre.ensures.word c.square.ensures.ball
+    ((is g c).shut (c.some_falls_below.ensures.0 passed)))
 
 pub returns-clause-found : goal.returns-clause-found
 returns-clause-found g c =
-    λ shut.
-    let high = slack g.S.Scale.HIGH_BITS in
-    let P = IsShutIn (ball_of c.square-neighbourhood.result) high in
-    let R = λ (row : Vec FormalPoint). ¬ Any P row.items in
-    let rows : List (Vec FormalPoint) = c.self.inside.rows.items in
-    let same : c.deref-row-items.result.now ≡ rows = c.deref-row-items.ensures.value in
-    let none : All R c.deref-row-items.result.now = subst (All R)
-    (take_all c.loop-row.row-index c.deref-row-items.result.now c.loop-row-test.false) c.loop-row.invariant in
-    let some : SomeFunction c.self.inside.word P = subst₂ (λ w b. SomeFunction w (IsShutIn b high)) (sym c.self.view_is)
-    (sym c.square-neighbourhood.ensures.ball) (some_of_shut c.args.self.now c.args.place high shut) in
-    absurd (none_in_rows P c.self.inside.word rows c.self.invariant (subst (All R) same none) some)
+    λ shut. c.some_falls_below.ensures.1
+    ((is g c).found (subst₂ (λ w b. SomeFunction w (IsShutIn b (slack g.S.Scale.HIGH_BITS))) (sym c.move_to_centre.ensures.word) (sym c.square.ensures.ball)
+    (some_of_shut c.args.self.now.word c.args.place (slack g.S.Scale.HIGH_BITS) shut)))
+
+pub returns-clause-no_corridor : goal.returns-clause-no_corridor
+returns-clause-no_corridor g c =
+    λ passed. shut_gives_no_corridor_lem c.args.self.now.word c.args.place (slack g.S.Scale.LOW_BITS) (slack_positive g.S.Scale.LOW_BITS)
+    (returns-clause-shut g c passed)
