@@ -28,7 +28,7 @@ use Rattle.gradient_bounds.specs.Clear.{margin}
 use Rattle.gradient_bounds.specs.CornerClear.{sag, IsCornerClearFunction}
 use Rattle.corner_bounds.specs.Laws.{CornerGivesCorridor, CornerClearWithLess}
 use Rattle.corner_bounds.proofs.Chords.{IsShare, IsOfSecondOrder}
-use Rattle.corner_bounds.proofs.Corners.{IsIn, Corners, value_in_square}
+use Rattle.corner_bounds.proofs.InSquare.{IsIn, Corners, value_in_square}
 
 -- ---- a point of a box
 

@@ -87,3 +87,7 @@ pub pi_at : (bits : ℕ) (L P H : ℤ) → bits ≤ 60 → FromSomeOn (λ n. Enc
 pi_at bits L P H room pi unit H_is =
     let size : unsigned_abs H ≤ 2 ^ 62 = subst (λ t. unsigned_abs t ≤ 2 ^ 62) (sym H_is) (pi_size bits L P room pi unit).1 in
     record { fits = fits_128 H (omega arith); size = omega arith }
+
+-- two numbers that are not too large have a sum
+pub sum_fits : (D M : ℤ) → unsigned_abs D ≤ 2 ^ 100 → unsigned_abs M ≤ 2 ^ 100 → FitsSigned w128 (D +ℤ M)
+sum_fits D M h k = fits_128 (D +ℤ M) (omega (arith, ints))

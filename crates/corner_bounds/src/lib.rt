@@ -5,5 +5,8 @@
 //! for, and true wherever it is with one sixteen times as wide. The module [`laws`] says what it means for the box.
 #![tactic(auto)]
 
+mod corners;
 pub mod laws;
 mod sag;
+
+pub use corners::test_corners;
