@@ -1,5 +1,5 @@
 -- What the tests at the corners of a box say of all functions of a word.
-use Rattle.std.proofs.Common.{◌≡◌, refl, sym, subst, ap, ◌∙◌, ℕ, zero, suc, ◌+◌, ◌-◌, ◌*◌, ◌^◌, ◌<◌, ◌≤◌, List, Option, Some, None, ℤ, pos, ◌+ℤ◌, ◌-ℤ◌, ◌*ℤ◌, ◌≤ℤ◌, unsigned_abs, arith}
+use Rattle.std.proofs.Common.{◌≡◌, sym, subst, subst₂, ap, ◌∙◌, ℕ, zero, suc, ◌+◌, ◌-◌, ◌*◌, ◌^◌, ◌<◌, ◌≤◌, List, Option, Some, None, ℤ, pos, ◌+ℤ◌, ◌-ℤ◌, ◌*ℤ◌, ◌≤ℤ◌, unsigned_abs, arith}
 use Rattle.std.specs.Prelude.{IfSome, IsSome}
 use Rattle.std.proofs.lemmas.Int.{ints}
 use Rattle.std.proofs.lemmas.Nat.{pow_pos}
@@ -17,7 +17,7 @@ use Rattle.trig_meaning.specs.FromSomeOn.{FromSomeOn}
 use Rattle.trig_meaning.specs.PartialSums.{pi_sum}
 use Rattle.trig_meaning.specs.Value.{value_at}
 use Rattle.unfolding.specs.Shift.{IsShift, HasShift}
-use Rattle.unfolding.proofs.Shifts.{same_shift}
+use Rattle.unfolding.proofs.Shifts.{same_shift, stable_from_shift}
 use Rattle.rational_polygon.specs.Point.{Point}
 use Rattle.rational_polygon.specs.Square.{Square, IsBox, box_corner}
 use Rattle.directed_fixed.specs.Ends.{Ends, Encloses}
@@ -124,6 +124,25 @@ corner_between n d h positive = (over_nonneg n d, over_le (pos n) (pos 1) d 1 po
     order : (n d : ℕ) → n ≤ d → (pos n *ℤ pos 1) ≤ℤ (pos 1 *ℤ pos d)
     order n d h = omega (arith, ints)
 
+pub coordinate_between : (x : Written) (i a level : ℕ) → i < 2 ^ level → a ≤ 1 → x ≡ record { num = pos (i + a); den = 2 ^ level }
+    → (whole 0 ≤ℚ value x) × (value x ≤ℚ whole 1)
+coordinate_between x i a level inside h is = subst (λ (t : Written). (whole 0 ≤ℚ value t) × (value t ≤ℚ whole 1)) (sym is)
+    (corner_between (i + a) (2 ^ level) (omega (arith, inside, h)) (pow_pos level))
+
+-- the point at which the table is filled is the corner
+module _ (o : Option (Written × Written)) (x y : Written) (box : Square) (e : ℚ) (u w : List ℕ) (a b : ℕ) (point : o ≡ Some (x, y)) (same : u ≡ w)
+    (corner : record { x = value x; y = value y } ≡ box_corner box a b) where
+  pub reaches_at_corner : EachReachesThere o box e u → EachReachesAtCorner box e w a b
+  reaches_at_corner each =
+      let here : EachReachesThere (Some (x, y)) box e w = subst₂ (λ p v. EachReachesThere p box e v) point same each in
+      λ k l h h' v s. subst (λ (q : Point). ReachesAt box e (defining_function v w k l) q.x q.y) corner (here k l h h' v s)
+
+  pub corner_reaches : EachReachesAtCorner box e w a b → EachReachesThere o box e u
+  corner_reaches each =
+      let here : EachReachesThere (Some (x, y)) box e w =
+      λ k l h h' v s. subst (λ (q : Point). ReachesAt box e (defining_function v w k l) q.x q.y) (sym corner) (each k l h h' v s) in
+      subst₂ (λ p v. EachReachesThere p box e v) (sym point) (sym same) here
+
 -- the four corners are all
 pub all_corners : (P : ℕ → ℕ → Type 0) → P 0 0 → P 1 0 → P 0 1 → P 1 1 → (a b : ℕ) → a ≤ 1 → b ≤ 1 → P a b
 all_corners P p q s t zero zero h k = p
@@ -151,3 +170,7 @@ pub reaches_of_clear : (box : Square) (e : ℚ) (w : List ℕ) → IsCornerClear
 reaches_of_clear box e w clear a b h h' k l g g' v shift =
     subst (λ u. ReachesAt box e (defining_function u w k l) (box_corner box a b).x (box_corner box a b).y)
     (same_shift w clear.each.shift v clear.each.is_shift shift) (clear.each.each k l g g' a b h h')
+
+-- a word with a shift is stable
+pub word_is_stable : (w : List ℕ) → IsWord w → HasShift w → IsStable w
+word_is_stable w word shift = stable_from_shift w word.letters word.even_length.even shift
