@@ -2,6 +2,7 @@
 use Rattle.std.proofs.Common.{◌≡◌, sym, subst, subst₂, ap, ◌∙◌, ℕ, zero, suc, ◌+◌, ◌-◌, ◌*◌, ◌^◌, ◌<◌, ◌≤◌, List, Option, Some, None, ℤ, pos, ◌+ℤ◌, ◌-ℤ◌, ◌*ℤ◌, ◌≤ℤ◌, unsigned_abs, arith}
 use Rattle.std.specs.Prelude.{IfSome, IsSome}
 use Rattle.std.proofs.lemmas.Int.{ints}
+use Rattle.std.proofs.Math.Pow.{pow_mono}
 use Rattle.std.proofs.lemmas.Nat.{pow_pos}
 use Rattle.rat_core.specs.Fraction.{ℚ, ◌÷◌, whole, ◌≤ℚ◌}
 use Rattle.rat_core.specs.Written.{Written, value}
@@ -174,3 +175,30 @@ reaches_of_clear box e w clear a b h h' k l g g' v shift =
 -- a word with a shift is stable
 pub word_is_stable : (w : List ℕ) → IsWord w → HasShift w → IsStable w
 word_is_stable w word shift = stable_from_shift w word.letters word.even_length.even shift
+
+-- the words at the four tests, from the last to the first
+pub record AreSame (w w₁ w₂ w₃ : List ℕ) : Type 0 where
+  pub first : w₁ ≡ w
+  pub second : w₂ ≡ w₁
+  pub third : w₃ ≡ w₂
+
+pub clear_at_four : (box : Square) (e : ℚ) (w w₁ w₂ w₃ : List ℕ) → AreSame w w₁ w₂ w₃ → 10 ≤ box.level → IsWord w → HasShift w
+    → EachReachesAtCorner box e w 0 0 → EachReachesAtCorner box e w₁ 1 0 → EachReachesAtCorner box e w₂ 0 1 → EachReachesAtCorner box e w₃ 1 1
+    → IsCornerClear w box e
+clear_at_four box e w w₁ w₂ w₃ same deep word shift p q s t =
+    let second = same.second ∙ same.first in
+    corner_clear_of box e w deep (word_is_stable w word shift) shift p (subst (λ u. EachReachesAtCorner box e u 1 0) same.first q)
+    (subst (λ u. EachReachesAtCorner box e u 0 1) second s) (subst (λ u. EachReachesAtCorner box e u 1 1) (same.third ∙ second) t)
+
+-- a word that is clear at the corners reaches at each
+pub reaches_at : (box : Square) (e : ℚ) (w u : List ℕ) → u ≡ w → IsCornerClear w box e → (a b : ℕ) → a ≤ 1 → b ≤ 1 → EachReachesAtCorner box e u a b
+reaches_at box e w u same clear a b h h' = subst (λ v. EachReachesAtCorner box e v a b) (sym same) (reaches_of_clear box e w clear a b h h')
+
+-- what the program's least slack is enough for
+pub slack_enough : (low : ℕ) → low ≤ 40 → pos 1 ÷ 2 ^ 49 ≤ℚ slack low
+slack_enough low h =
+    let exponent : low ≤ 49 = omega (arith, h) in
+    over_le (pos 1) (pos 1) (2 ^ 49) (2 ^ low) (pow_pos 49) (pow_pos low) (order (2 ^ low) (2 ^ 49) (pow_mono exponent))
+  where
+    order : (m n : ℕ) → m ≤ n → (pos 1 *ℤ pos m) ≤ℤ (pos 1 *ℤ pos n)
+    order m n h = omega (arith, ints)

@@ -32,10 +32,16 @@ pub fn test_corners<S: Scale>(p: &mut Prepared<S>, place: GridBox, low: u32) -> 
     ensures found { IsCornerClear p.old.word place (slack (low - 4)) → IsTrue result }
     ensures corridor { IsTrue result → (q : Point) → IsInBox place q → HasCorridor p.old.word q.x q.y }
 {
-    is_clear_at::<S>(p, place, low, 0, 0)
-        && is_clear_at::<S>(p, place, low, 1, 0)
-        && is_clear_at::<S>(p, place, low, 0, 1)
-        && is_clear_at::<S>(p, place, low, 1, 1)
+    if !is_clear_at::<S>(p, place, low, 0, 0) {
+        return false;
+    }
+    if !is_clear_at::<S>(p, place, low, 1, 0) {
+        return false;
+    }
+    if !is_clear_at::<S>(p, place, low, 0, 1) {
+        return false;
+    }
+    is_clear_at::<S>(p, place, low, 1, 1)
 }
 
 /// Whether each function is seen to reach its sag and its margin at the corner (a, b).
