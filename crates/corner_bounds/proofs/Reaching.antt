@@ -1,14 +1,13 @@
 -- What the bounds of a function's value say of it at a corner of a box.
 use Rattle.std.proofs.Common.{◌≡◌, refl, sym, ap, ap₂, ◌∙◌, subst, subst₂, ℕ, ◌+◌, ◌-◌, ◌*◌, ◌^◌, ◌≤◌, ℤ, pos, ◌+ℤ◌, ◌≤ℤ◌, [], ◌∷◌, arith, mul-le-mul_right}
 use Rattle.std.proofs.Math.Pow.{pow_mono}
-use Rattle.std.proofs.lemmas.Int.{ints}
 use Rattle.std.proofs.lemmas.Nat.{pow-add, pow_pos}
 use Rattle.ring_solver.specs.Expression.{var, num, ◌⊞◌, ◌⊠◌}
 use Rattle.ring_solver.specs.Ordered.{le, times}
 use Rattle.ring_solver.proofs.Solver.{ring₁, ring₂}
 use Rattle.ring_solver.proofs.Certificate.{certified, at_most_of_same}
 use Rattle.rat_core.specs.Fraction.{ℚ, ◌÷◌, whole, ◌+ℚ◌, ◌*ℚ◌, ◌≤ℚ◌}
-use Rattle.rat_core.proofs.Laws.{ℚ_ring, ℚ_ordered, int-add, int-mul, over-mul, le_trans}
+use Rattle.rat_core.proofs.Laws.{ℚ_ring, ℚ_ordered, int-add, int-mul, over-mul}
 use Rattle.rat_core.proofs.Order.{int_le, int_le_back, whole_nonneg, whole_le, cancel, cancel_le}
 use Rattle.exp_sums.specs.FormalPoint.{FormalPoint}
 use Rattle.exp_sums.specs.Limits.{weight}
@@ -18,7 +17,7 @@ use Rattle.trig_meaning.specs.PartialSums.{pi_sum}
 use Rattle.trig_meaning.specs.Value.{value_at}
 use Rattle.trig_meaning.proofs.FromSomeOnLaws.{onward_both, somewhere}
 use Rattle.trig_meaning.proofs.PiSums.{five_pi_at_most_sixteen, pi_sum_nonneg}
-use Rattle.rational_polygon.specs.Square.{Square, half_side}
+use Rattle.rational_polygon.specs.Square.{Square}
 use Rattle.directed_fixed.specs.Ends.{Ends, Encloses}
 use Rattle.gradient_bounds.specs.Clear.{slack, margin}
 use Rattle.gradient_bounds.specs.CornerClear.{sag}

@@ -1,22 +1,15 @@
 -- What the sag and the margin in units say of a function's value at a corner of a box.
-use Rattle.std.proofs.Common.{◌≡◌, refl, sym, ap, ap₂, ◌∙◌, subst, subst₂, ℕ, ◌+◌, ◌-◌, ◌*◌, ◌^◌, ◌<◌, ◌≤◌, ℤ, pos, ◌+ℤ◌, ◌-ℤ◌, ◌*ℤ◌, ◌≤ℤ◌, ◌<ℤ◌, [], ◌∷◌, arith, mul-le-mul}
+use Rattle.std.proofs.Common.{◌≡◌, refl, sym, ap, ◌∙◌, subst, subst₂, ℕ, ◌+◌, ◌*◌, ◌^◌, ◌≤◌, ℤ, pos, ◌+ℤ◌, ◌*ℤ◌, ◌≤ℤ◌, ◌<ℤ◌, [], ◌∷◌, arith}
 use Rattle.std.proofs.Math.Pow.{pow_mono}
 use Rattle.std.proofs.lemmas.Int.{ints}
-use Rattle.std.proofs.lemmas.Nat.{pow-add, pow_pos}
-use Rattle.ring_solver.specs.Expression.{var, num, ◌⊞◌, ◌⊟◌, ◌⊠◌}
+use Rattle.std.proofs.lemmas.Nat.{pow_pos}
+use Rattle.ring_solver.specs.Expression.{var, num, ◌⊞◌, ◌⊠◌}
 use Rattle.ring_solver.specs.Ordered.{le, times, same}
-use Rattle.ring_solver.proofs.Solver.{ring₃}
-use Rattle.ring_solver.proofs.Certificate.{le₃, le₄, certified, moved, at_most_of_same}
-use Rattle.rat_core.specs.Fraction.{ℚ, ◌÷◌, whole, ◌+ℚ◌, ◌-ℚ◌, ◌*ℚ◌, ◌≤ℚ◌, at_most}
-use Rattle.rat_core.proofs.Laws.{ℚ_ring, ℚ_ordered, int-add, int-sub, int-mul, le_trans, over-mul, over_le, mul_nonneg}
-use Rattle.rat_core.proofs.Order.{int_le, int_le_back, whole_nonneg, whole_le, over_nonneg, cancel_le}
-use Rattle.trig_meaning.specs.FromSomeOn.{FromSomeOn}
-use Rattle.trig_meaning.specs.PartialSums.{pi_sum}
-use Rattle.trig_meaning.proofs.PiSums.{five_pi_at_most_sixteen, pi_sum_nonneg}
+use Rattle.ring_solver.proofs.Certificate.{le₃, certified}
+use Rattle.rat_core.specs.Fraction.{ℚ, ◌÷◌, whole, ◌+ℚ◌, ◌*ℚ◌, ◌≤ℚ◌}
+use Rattle.rat_core.proofs.Laws.{ℚ_ordered, int-add, int-mul, le_trans, over-mul, mul_nonneg}
+use Rattle.rat_core.proofs.Order.{int_le, whole_nonneg, whole_le, over_nonneg, cancel_le}
 use Rattle.directed_fixed.specs.Rounding.{IsCeiling}
-use Rattle.directed_fixed.specs.Ends.{Ends, Encloses}
-use Rattle.gradient_bounds.specs.Clear.{slack}
-use Rattle.gradient_bounds.proofs.Margins.{slack_units}
 use Rattle.corner_bounds.specs.Sag.{IsSag}
 
 -- pi is between L and H, for the n-th approximation
@@ -60,9 +53,23 @@ square_below bits L H q p pi ceiling =
     (certified ℚ_ordered (p ∷ u ∷ (H ÷ 1) ∷ (q ÷ 1) ∷ []) ((var 3 ⊠ num 5) ⊠ var 1) ((((var 0 ⊠ var 0) ⊠ var 1 ⊞ num 9) ⊠ num 5) ⊠ var 1)
     (times (num 5) (var 3 ⊠ var 1) (var 2 ⊠ var 2 ⊞ var 1) ∷ times (num 5 ⊠ var 2) (var 2) (var 0 ⊠ var 1 ⊞ num 1)
     ∷ times (num 5 ⊠ (var 0 ⊠ var 1 ⊞ num 1)) (var 2) (var 0 ⊠ var 1 ⊞ num 1) ∷ times (num 2 ⊠ var 1) (num 5 ⊠ var 0) (num 16) ∷ times (num 5) (num 1) (var 1) ∷ times (num 3) (num 0) (var 1) ∷ [])
-    refl
-    (whole_nonneg 5, down, (five (H ÷ 1) h, next, (five (p *ℚ u +ℚ whole 1) more, next, (mul_nonneg (whole 2) u (whole_nonneg 2) (whole_nonneg (2 ^ bits)), pi.small,
-    (whole_nonneg 5, one, (whole_nonneg 3, whole_nonneg (2 ^ bits), tt))))))))
+    refl (
+      whole_nonneg 5,
+      down,
+      (
+        five (H ÷ 1) h,
+        next,
+        (
+          five (p *ℚ u +ℚ whole 1) more,
+          next,
+          (
+            mul_nonneg (whole 2) u (whole_nonneg 2) (whole_nonneg (2 ^ bits)),
+            pi.small,
+            (whole_nonneg 5, one, (whole_nonneg 3, whole_nonneg (2 ^ bits), tt)),
+          ),
+        ),
+      ),
+    )))
   where
     weaker : (a b : ℤ) → a <ℤ b → a ≤ℤ b
     weaker a b h = omega (arith, ints)
@@ -111,9 +118,21 @@ module _ (bits : ℕ) (L H D : ℤ) (p : ℚ) (level B : ℕ) (pi : IsPiAt bits 
       (times (var 4) (var 5 ⊠ var 6) (num 2 ⊠ var 2 ⊠ var 3 ⊞ var 6) ∷ same (var 5) (num 1) (var 4 ⊠ var 6) ∷ same (num 1) (var 4 ⊠ var 6) (num 1)
       ∷ times (num 2 ⊠ var 3 ⊠ var 4) (var 2) ((var 0 ⊠ var 0) ⊠ var 1 ⊞ num 9) ∷ times (num 18 ⊠ var 4) (var 3) (num 33800 ⊠ var 7)
       ∷ times (var 7) (num 608400 ⊠ var 4) (num 1) ∷ [])
-      refl
-      (positive, down, (sym one, (one, (twice_bend, square_below bits L H sag.square p pi sag.is_square,
-      (mul_nonneg (whole 18) square (whole_nonneg 18) positive, bends, (whole_nonneg w, few, tt))))))
+      refl (
+        positive,
+        down,
+        (
+          sym one,
+          (
+            one,
+            (
+              twice_bend,
+              square_below bits L H sag.square p pi sag.is_square,
+              (mul_nonneg (whole 18) square (whole_nonneg 18) positive, bends, (whole_nonneg w, few, tt)),
+            ),
+          ),
+        ),
+      )
     where
       weaker : (a b : ℤ) → a <ℤ b → a ≤ℤ b
       weaker a b h = omega (arith, ints)

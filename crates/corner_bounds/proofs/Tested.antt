@@ -8,7 +8,6 @@ use Rattle.rat_core.specs.Fraction.{ℚ, ◌÷◌, whole, ◌≤ℚ◌}
 use Rattle.rat_core.specs.Written.{Written, value}
 use Rattle.rat_core.proofs.Laws.{over_le}
 use Rattle.rat_core.proofs.Order.{over_nonneg}
-use Rattle.edge_words.specs.Letters.{IsPlace}
 use Rattle.edge_words.specs.Stable.{IsStable}
 use Rattle.edge_words.specs.Word.{IsWord}
 use Rattle.exp_sums.specs.FormalPoint.{FormalPoint}
@@ -20,7 +19,7 @@ use Rattle.trig_meaning.specs.Value.{value_at}
 use Rattle.unfolding.specs.Shift.{IsShift, HasShift}
 use Rattle.unfolding.proofs.Shifts.{same_shift, stable_from_shift}
 use Rattle.rational_polygon.specs.Point.{Point}
-use Rattle.rational_polygon.specs.Square.{Square, IsBox, box_corner}
+use Rattle.rational_polygon.specs.Square.{Square, box_corner}
 use Rattle.directed_fixed.specs.Ends.{Ends, Encloses}
 use Rattle.defining_functions.specs.Functions.{defining_function}
 use Rattle.gradient_bounds.specs.Clear.{slack}
@@ -91,8 +90,10 @@ pub record IsMeasured (u w : List ℕ) (k l : ℕ) (bends weighs : ℤ) : Type 0
   pub weight_is : (v : FormalPoint) → IsShift u v → weighs ≡ pos (weight (defining_function v u k l))
 
 pub size_at_least : (u w : List ℕ) (k l : ℕ) (x y : ℤ) → IsMeasured u w k l x y → (pos 0 ≤ℤ x) × (pos 0 ≤ℤ y)
-size_at_least u w k l x y h = (from (bend (defining_function h.shift.0 u k l)) x (h.bend_is h.shift.0 h.shift.1),
-    from (weight (defining_function h.shift.0 u k l)) y (h.weight_is h.shift.0 h.shift.1))
+size_at_least u w k l x y h = (
+  from (bend (defining_function h.shift.0 u k l)) x (h.bend_is h.shift.0 h.shift.1),
+  from (weight (defining_function h.shift.0 u k l)) y (h.weight_is h.shift.0 h.shift.1),
+)
   where
     from : (n : ℕ) (z : ℤ) → z ≡ pos n → pos 0 ≤ℤ z
     from n z e = omega (arith, ints)

@@ -45,13 +45,7 @@ pub fn test_corners<S: Scale>(p: &mut Prepared<S>, place: GridBox, low: u32) -> 
 }
 
 /// Whether each function is seen to reach its sag and its margin at the corner (a, b).
-fn is_clear_at<S: Scale>(
-    p: &mut Prepared<S>,
-    place: GridBox,
-    low: u32,
-    a: u32,
-    b: u32,
-) -> bool
+fn is_clear_at<S: Scale>(p: &mut Prepared<S>, place: GridBox, low: u32, a: u32, b: u32) -> bool
     requires level { 10 ≤ place.level }
     requires low { 12 ≤ low }
     requires room { low + 8 ≤ S.BITS }
@@ -109,13 +103,7 @@ fn is_row_clear<S: Scale>(p: &Prepared<S>, k: u32, place: GridBox, low: u32) -> 
 }
 
 /// Whether the lower end of the bounds of a function reaches its sag and its margin.
-fn is_function_clear<S: Scale>(
-    p: &Prepared<S>,
-    k: u32,
-    l: u32,
-    place: GridBox,
-    low: u32,
-) -> bool
+fn is_function_clear<S: Scale>(p: &Prepared<S>, k: u32, l: u32, place: GridBox, low: u32) -> bool
     requires upper { IsPlace p.now.word k }
     requires lower { IsPlace p.now.word l }
     requires filled { IsSome p.now.point }

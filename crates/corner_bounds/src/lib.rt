@@ -8,5 +8,7 @@
 mod corners;
 pub mod laws;
 mod sag;
+#[cfg(test)]
+mod tests;
 
 pub use corners::test_corners;

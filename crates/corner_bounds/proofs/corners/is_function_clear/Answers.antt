@@ -1,4 +1,4 @@
-use Rattle.std.proofs.Common.{◌+ℤ◌, ◌-◌, ◌≤◌, unsigned_abs, FitsSigned, ap, subst, arith}
+use Rattle.std.proofs.Common.{◌+ℤ◌, ◌≤◌, unsigned_abs, FitsSigned, ap, subst, arith}
 use Rattle.std.specs.Int.{w64, w128}
 use Rattle.std.proofs.lemmas.Int.{to_z-of_z}
 use Rattle.rational_polygon.specs.Square.{Square}
@@ -12,9 +12,13 @@ pub returns-clause-clear : goal.returns-clause-clear
 returns-clause-clear g c =
     let bend : FitsSigned w64 c.bend-bend.result = record { sfits = c.bend-bend.type_inv } in
     let weight : FitsSigned w64 c.weight-weight.result = record { sfits = c.weight-weight.type_inv } in
-    let is : IsMeasured c.functions-functions.result.now c.args.p.now.word c.args.k c.args.l c.bend-bend.result c.weight-weight.result = record
-    { same = c.functions-functions.ensures; shift = c.bend-bend.ensures.shift; bend_is = c.bend-bend.ensures.is; by_weight = c.bend-bend.ensures.by_weight;
-    weight_is = c.weight-weight.ensures.is } in
+    let is : IsMeasured c.functions-functions.result.now c.args.p.now.word c.args.k c.args.l c.bend-bend.result c.weight-weight.result = record {
+      same = c.functions-functions.ensures;
+      shift = c.bend-bend.ensures.shift;
+      bend_is = c.bend-bend.ensures.is;
+      by_weight = c.bend-bend.ensures.by_weight;
+      weight_is = c.weight-weight.ensures.is;
+    } in
     let D : FitsSigned w128 c.sag-sag.result = record { sfits = c.sag-sag.type_inv } in
     let M : FitsSigned w128 c.margin-margin.result = record { sfits = c.margin-margin.type_inv } in
     let sum : FitsSigned w128 (c.sag-sag.result +ℤ c.margin-margin.result) = sum_fits c.sag-sag.result c.margin-margin.result c.sag-sag.ensures.size
@@ -33,9 +37,13 @@ pub returns-clause-found : goal.returns-clause-found
 returns-clause-found g c =
     let bend : FitsSigned w64 c.bend-bend.result = record { sfits = c.bend-bend.type_inv } in
     let weight : FitsSigned w64 c.weight-weight.result = record { sfits = c.weight-weight.type_inv } in
-    let is : IsMeasured c.functions-functions.result.now c.args.p.now.word c.args.k c.args.l c.bend-bend.result c.weight-weight.result = record
-    { same = c.functions-functions.ensures; shift = c.bend-bend.ensures.shift; bend_is = c.bend-bend.ensures.is; by_weight = c.bend-bend.ensures.by_weight;
-    weight_is = c.weight-weight.ensures.is } in
+    let is : IsMeasured c.functions-functions.result.now c.args.p.now.word c.args.k c.args.l c.bend-bend.result c.weight-weight.result = record {
+      same = c.functions-functions.ensures;
+      shift = c.bend-bend.ensures.shift;
+      bend_is = c.bend-bend.ensures.is;
+      by_weight = c.bend-bend.ensures.by_weight;
+      weight_is = c.weight-weight.ensures.is;
+    } in
     let D : FitsSigned w128 c.sag-sag.result = record { sfits = c.sag-sag.type_inv } in
     let M : FitsSigned w128 c.margin-margin.result = record { sfits = c.margin-margin.type_inv } in
     let sum : FitsSigned w128 (c.sag-sag.result +ℤ c.margin-margin.result) = sum_fits c.sag-sag.result c.margin-margin.result c.sag-sag.ensures.size
@@ -55,16 +63,24 @@ pub sag-sag-requires-clause-at_least : goal.sag-sag-requires-clause-at_least
 sag-sag-requires-clause-at_least g c =
     let bend : FitsSigned w64 c.bend-bend.result = record { sfits = c.bend-bend.type_inv } in
     let weight : FitsSigned w64 c.weight-weight.result = record { sfits = c.weight-weight.type_inv } in
-    let is : IsMeasured c.functions-functions.result.now c.args.p.now.word c.args.k c.args.l c.bend-bend.result c.weight-weight.result = record
-    { same = c.functions-functions.ensures; shift = c.bend-bend.ensures.shift; bend_is = c.bend-bend.ensures.is; by_weight = c.bend-bend.ensures.by_weight;
-    weight_is = c.weight-weight.ensures.is } in
+    let is : IsMeasured c.functions-functions.result.now c.args.p.now.word c.args.k c.args.l c.bend-bend.result c.weight-weight.result = record {
+      same = c.functions-functions.ensures;
+      shift = c.bend-bend.ensures.shift;
+      bend_is = c.bend-bend.ensures.is;
+      by_weight = c.bend-bend.ensures.by_weight;
+      weight_is = c.weight-weight.ensures.is;
+    } in
     simp to_z-of_z (size_at_least c.functions-functions.result.now c.args.p.now.word c.args.k c.args.l c.bend-bend.result c.weight-weight.result is).0
 
 pub margin-margin-requires-clause-at_least : goal.margin-margin-requires-clause-at_least
 margin-margin-requires-clause-at_least g c =
     let bend : FitsSigned w64 c.bend-bend.result = record { sfits = c.bend-bend.type_inv } in
     let weight : FitsSigned w64 c.weight-weight.result = record { sfits = c.weight-weight.type_inv } in
-    let is : IsMeasured c.functions-functions.result.now c.args.p.now.word c.args.k c.args.l c.bend-bend.result c.weight-weight.result = record
-    { same = c.functions-functions.ensures; shift = c.bend-bend.ensures.shift; bend_is = c.bend-bend.ensures.is; by_weight = c.bend-bend.ensures.by_weight;
-    weight_is = c.weight-weight.ensures.is } in
+    let is : IsMeasured c.functions-functions.result.now c.args.p.now.word c.args.k c.args.l c.bend-bend.result c.weight-weight.result = record {
+      same = c.functions-functions.ensures;
+      shift = c.bend-bend.ensures.shift;
+      bend_is = c.bend-bend.ensures.is;
+      by_weight = c.bend-bend.ensures.by_weight;
+      weight_is = c.weight-weight.ensures.is;
+    } in
     simp to_z-of_z (size_at_least c.functions-functions.result.now c.args.p.now.word c.args.k c.args.l c.bend-bend.result c.weight-weight.result is).1

@@ -1,4 +1,4 @@
-use Rattle.std.proofs.Common.{◌≤◌, unsigned_abs, FitsSigned, subst, sym, ◌∙◌, arith}
+use Rattle.std.proofs.Common.{◌≤◌, unsigned_abs, FitsSigned, arith}
 use Rattle.std.specs.Int.{w64}
 use Rattle.std.proofs.lemmas.Int.{to_z-of_z, ints}
 use Rattle.gradient_bounds.proofs.Margins.{margin_at}

@@ -1,9 +1,6 @@
-use Rattle.std.proofs.Common.{◌^◌, ◌≤◌, refl, FitsSigned}
+use Rattle.std.proofs.Common.{refl, FitsSigned}
 use Rattle.std.specs.Int.{w128}
 use Rattle.std.proofs.lemmas.Int.{to_z-of_z}
-use Rattle.directed_fixed.specs.Rounding.{IsCeiling}
-use Rattle.directed_fixed.proofs.PiSums.{pi_size}
-use Rattle.gradient_bounds.proofs.Turning.{fits_128}
 use Rattle.corner_bounds.proofs.Units.{square_size, pi_at}
 use Rattle.corner_bounds.proofs.sag.pi_square.Goals as goal
 

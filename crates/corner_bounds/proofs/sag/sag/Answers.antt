@@ -1,7 +1,6 @@
 use Rattle.std.proofs.Common.{◌^◌, ◌≤◌, unsigned_abs, FitsSigned, arith}
 use Rattle.std.specs.Int.{w64, w128}
 use Rattle.std.proofs.lemmas.Int.{to_z-of_z}
-use Rattle.corner_bounds.proofs.Sags.{sag_below}
 use Rattle.corner_bounds.proofs.Units.{product_of, parts_fit, sag_of, sag_size}
 use Rattle.corner_bounds.proofs.sag.sag.Goals as goal
 
@@ -32,6 +31,9 @@ returns-clause-size g c =
     let divisor = (parts_fit c.parts.result c.args.level c.requires.level c.parts.ensures).2 in
     let r : FitsSigned w128 c.div.result = record { sfits = c.div.type_inv } in
     let ceiling = simp to_z-of_z at (rw from_is at c.div.ensures) in
-    let size : unsigned_abs c.div.result ≤ 2 ^ 100 = omega (arith, sag_size c.pi_square.result c.args.bend c.div.result c.parts.result c.args.level
-    c.parts.ensures ceiling is.size) in
+    let size : unsigned_abs c.div.result ≤ 2 ^ 100 = omega (
+      arith,
+      sag_size c.pi_square.result c.args.bend c.div.result c.parts.result c.args.level
+          c.parts.ensures ceiling is.size,
+    ) in
     simp to_z-of_z size
