@@ -71,7 +71,8 @@ deep_small : (level : ℕ) → 10 ≤ level → whole 130 *ℚ (pos 1 ÷ 2 ^ (le
 deep_small level deep =
     let deeper : 11 ≤ level + 1 = omega (arith, deep) in
     let many : 2 ^ 11 ≤ 2 ^ (level + 1) = pow_mono deeper in
-    let less : pos 1 ÷ 2 ^ (level + 1) ≤ℚ pos 1 ÷ 2 ^ 11 = over_le (pos 1) (pos 1) (2 ^ (level + 1)) (2 ^ 11) (pow_pos (level + 1)) (pow_pos 11) (order (2 ^ (level + 1)) many) in
+    let less : pos 1 ÷ 2 ^ (level + 1) ≤ℚ pos 1 ÷ 2 ^ 11 = over_le (pos 1) (pos 1) (2 ^ (level + 1)) (2 ^ 11) (pow_pos (level + 1)) (pow_pos 11)
+    (order (2 ^ (level + 1)) many) in
     le_trans (whole 130 *ℚ (pos 1 ÷ 2 ^ (level + 1))) (whole 130 *ℚ (pos 1 ÷ 2 ^ 11)) (pos 1 ÷ 8)
     (le₃ ℚ_ordered (λ k x y. k ⊠ x) (λ k x y. k ⊠ y) (λ k x y. times k x y ∷ []) refl (whole 130) (pos 1 ÷ 2 ^ (level + 1)) (pos 1 ÷ 2 ^ 11)
     (whole_nonneg 130, less, tt)) closed
@@ -157,10 +158,13 @@ function_is_positive box e p enough deep within f near clear = (
         let reach = value_in_square n 130 law f near (centre box).x (centre box).y (half_side box) a b (sag n box f +ℚ margin e f) is_in corners in
         let at_point = subst₂ (λ u v. sag n box f +ℚ margin e f
         -ℚ (whole 2 *ℚ (pi_sum n *ℚ pi_sum n) *ℚ (half_side box *ℚ half_side box) *ℚ whole (bend f) +ℚ (pos 1 ÷ 2 ^ 50 +ℚ pos 1 ÷ 2 ^ 50) *ℚ whole (weight f))
-        ≤ℚ value_at n f u v) (shared (2 ^ (box.level + 1)) (pow_pos (box.level + 1)) p.x (centre box).x) (shared (2 ^ (box.level + 1)) (pow_pos (box.level + 1)) p.y (centre box).y) reach in
-        remainder e (pos 1 ÷ 2 ^ 49) (sag n box f) (whole 2 *ℚ (pi_sum n *ℚ pi_sum n) *ℚ (half_side box *ℚ half_side box) *ℚ whole (bend f)) (value_at n f p.x p.y)
+        ≤ℚ value_at n f u v) (shared (2 ^ (box.level + 1)) (pow_pos (box.level + 1)) p.x (centre box).x)
+        (shared (2 ^ (box.level + 1)) (pow_pos (box.level + 1)) p.y (centre box).y) reach in
+        remainder e (pos 1 ÷ 2 ^ 49) (sag n box f) (whole 2 *ℚ (pi_sum n *ℚ pi_sum n) *ℚ (half_side box *ℚ half_side box) *ℚ whole (bend f))
+        (value_at n f p.x p.y)
         (pos 1 ÷ 2 ^ 50 +ℚ pos 1 ÷ 2 ^ 50) (weight f) enough twice_closed
-        (ring₃ ℚ_ring (λ p h b. num 2 ⊠ p ⊠ (h ⊠ h) ⊠ b) (λ p h b. num 2 ⊠ p ⊠ (b ⊠ (h ⊠ h))) refl (pi_sum n *ℚ pi_sum n) (half_side box) (whole (bend f))) at_point
+        (ring₃ ℚ_ring (λ p h b. num 2 ⊠ p ⊠ (h ⊠ h) ⊠ b) (λ p h b. num 2 ⊠ p ⊠ (b ⊠ (h ⊠ h))) refl (pi_sum n *ℚ pi_sum n) (half_side box) (whole (bend f)))
+        at_point
 
 pub corner_gives_corridor_lem : CornerGivesCorridor
 corner_gives_corridor_lem w box e word enough clear p within = record {

@@ -114,9 +114,11 @@ module _ (n : ℕ) (law : IsOfSecondOrder n) where
       let above = mix a (s (t +ℚ h -ℚ g)) (s (t +ℚ h +ℚ g)) in
       let up : abs (s (base +ℚ b *ℚ h) -ℚ mix b (s (base -ℚ h)) (s (base +ℚ h))) ≤ℚ bound n h = signed base h b small' share' in
       let left : abs (s (base -ℚ h) -ℚ below) ≤ℚ bound n g =
-      subst (λ z. abs (s z -ℚ below) ≤ℚ bound n g) (ring₃ ℚ_ring (λ t h m. t ⊟ h ⊞ m) (λ t h m. t ⊞ m ⊟ h) refl t h (a *ℚ g)) (signed (t -ℚ h) g a small share) in
+      subst (λ z. abs (s z -ℚ below) ≤ℚ bound n g) (ring₃ ℚ_ring (λ t h m. t ⊟ h ⊞ m) (λ t h m. t ⊞ m ⊟ h) refl t h (a *ℚ g))
+      (signed (t -ℚ h) g a small share) in
       let right : abs (s (base +ℚ h) -ℚ above) ≤ℚ bound n g =
-      subst (λ z. abs (s z -ℚ above) ≤ℚ bound n g) (ring₃ ℚ_ring (λ t h m. t ⊞ h ⊞ m) (λ t h m. t ⊞ m ⊞ h) refl t h (a *ℚ g)) (signed (t +ℚ h) g a small share) in
+      subst (λ z. abs (s z -ℚ above) ≤ℚ bound n g) (ring₃ ℚ_ring (λ t h m. t ⊞ h ⊞ m) (λ t h m. t ⊞ m ⊞ h) refl t h (a *ℚ g))
+      (signed (t +ℚ h) g a small share) in
       let across : abs (mix b (s (base -ℚ h)) (s (base +ℚ h)) -ℚ mix b below above) ≤ℚ bound n g =
       mix_near b (s (base -ℚ h)) (s (base +ℚ h)) below above (bound n g) share' left right in
       let way = abs_by_way (mix b below above) (mix b (s (base -ℚ h)) (s (base +ℚ h))) (s (base +ℚ b *ℚ h)) in

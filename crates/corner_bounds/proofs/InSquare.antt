@@ -73,7 +73,8 @@ module _ (n far : ℕ) (law : IsOfSecondOrder n) (x y r a b : ℚ) (is_in : IsIn
       let t = m *ℚ x +ℚ k *ℚ y in
       let g = m *ℚ r in
       let h = k *ℚ r in
-      let found = between_corners n law t g h a b (step_small far d.m r near.m is_in.nonneg is_in.small) (step_small far d.n r near.n is_in.nonneg is_in.small)
+      let found = between_corners n law t g h a b (step_small far d.m r near.m is_in.nonneg is_in.small)
+      (step_small far d.n r near.n is_in.nonneg is_in.small)
       is_in.across is_in.up in
       moved ℚ_ordered
       (ap₂ (λ v w. abs (v -ℚ w))
@@ -129,7 +130,8 @@ module _ (a b B E : ℚ) (v p q s t : Dir → ℚ) where
       let bend_is : whole (terms_bend (u ∷ us)) ≡ k *ℚ m +ℚ bends =
       ap whole (terms_bend-cons u us) ∙ int-add (pos (unsigned_abs u.c * dir_bend d)) (pos (terms_bend us))
       ∙ ap (λ z. z +ℚ bends) (int-mul (pos (unsigned_abs u.c)) (pos (dir_bend d))) in
-      let weight_is : whole (terms_weight (u ∷ us)) ≡ k +ℚ weights = ap whole (terms_weight-cons u us) ∙ int-add (pos (unsigned_abs u.c)) (pos (terms_weight us)) in
+      let weight_is : whole (terms_weight (u ∷ us)) ≡ k +ℚ weights = ap whole (terms_weight-cons u us) ∙ int-add (pos (unsigned_abs u.c))
+      (pos (terms_weight us)) in
       let bound_is = ap₂ (λ x y. B *ℚ x +ℚ E *ℚ y) (sym bend_is) (sym weight_is) in
       let sum : abs (c *ℚ here +ℚ others) ≤ℚ B *ℚ (k *ℚ m +ℚ bends) +ℚ E *ℚ (k +ℚ weights) =
       le_trans (abs (c *ℚ here +ℚ others)) (abs (c *ℚ here) +ℚ abs others) (B *ℚ (k *ℚ m +ℚ bends) +ℚ E *ℚ (k +ℚ weights)) (abs_add_le (c *ℚ here) others)
@@ -167,12 +169,15 @@ value_in_square n far law f within x y r a b low is_in corners =
     let B = whole 2 *ℚ (pi_sum n *ℚ pi_sum n) *ℚ (r *ℚ r) in
     let E = pos 1 ÷ 2 ^ 50 +ℚ pos 1 ÷ 2 ^ 50 in
     let v = value_at n f (x +ℚ a *ℚ r) (y +ℚ b *ℚ r) in
-    let between = mix_four a b (value_at n f (x -ℚ r) (y -ℚ r)) (value_at n f (x +ℚ r) (y -ℚ r)) (value_at n f (x -ℚ r) (y +ℚ r)) (value_at n f (x +ℚ r) (y +ℚ r)) in
+    let between = mix_four a b (value_at n f (x -ℚ r) (y -ℚ r)) (value_at n f (x +ℚ r) (y -ℚ r)) (value_at n f (x -ℚ r) (y +ℚ r))
+    (value_at n f (x +ℚ r) (y +ℚ r)) in
     let near : abs (v -ℚ between) ≤ℚ B *ℚ whole (bend f) +ℚ E *ℚ whole (weight f) =
     terms_near a b B E (λ d. sine_of_turn n (turn_of d (x +ℚ a *ℚ r) (y +ℚ b *ℚ r))) (λ d. sine_of_turn n (turn_of d (x -ℚ r) (y -ℚ r)))
-    (λ d. sine_of_turn n (turn_of d (x +ℚ r) (y -ℚ r))) (λ d. sine_of_turn n (turn_of d (x -ℚ r) (y +ℚ r))) (λ d. sine_of_turn n (turn_of d (x +ℚ r) (y +ℚ r)))
+    (λ d. sine_of_turn n (turn_of d (x +ℚ r) (y -ℚ r))) (λ d. sine_of_turn n (turn_of d (x -ℚ r) (y +ℚ r)))
+    (λ d. sine_of_turn n (turn_of d (x +ℚ r) (y +ℚ r)))
     (terms f) (λ i u below. direction_near n far law x y r a b is_in (slice_index_or (terms f) i u).dir (within i u below)) in
-    let least = mix_four_least a b (value_at n f (x -ℚ r) (y -ℚ r)) (value_at n f (x +ℚ r) (y -ℚ r)) (value_at n f (x -ℚ r) (y +ℚ r)) (value_at n f (x +ℚ r) (y +ℚ r))
+    let least = mix_four_least a b (value_at n f (x -ℚ r) (y -ℚ r)) (value_at n f (x +ℚ r) (y -ℚ r)) (value_at n f (x -ℚ r) (y +ℚ r))
+    (value_at n f (x +ℚ r) (y +ℚ r))
     low is_in.across is_in.up corners.below_left corners.below_right corners.above_left corners.above_right in
     certified ℚ_ordered (low ∷ (B *ℚ whole (bend f) +ℚ E *ℚ whole (weight f)) ∷ v ∷ between ∷ abs (v -ℚ between) ∷ []) (var 0 ⊟ var 1) (var 2)
     (le (var 0) (var 3) ∷ le (opp (var 2 ⊟ var 3)) (var 4) ∷ le (var 4) (var 1) ∷ []) refl (least, (neg_le_abs (v -ℚ between), (near, tt)))

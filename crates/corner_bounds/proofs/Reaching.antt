@@ -80,7 +80,8 @@ module _ (bits low : ℕ) (L H : ℤ) (box : Square) (f : FormalPoint) (x y : �
           let v = value_at n f x y in
           let m = margin (slack low) f in
           let narrow : low ≤ bits = omega (arith, seen.room) in
-          let above : sag n box f *ℚ u ≤ℚ D ÷ 1 = subst (λ z. z *ℚ u ≤ℚ D ÷ 1) (sag_is n) (sag_above bits L H D (pi_sum n) box.level (bend f) pi seen.is_sag) in
+          let above : sag n box f *ℚ u ≤ℚ D ÷ 1 = subst (λ z. z *ℚ u ≤ℚ D ÷ 1) (sag_is n)
+          (sag_above bits L H D (pi_sum n) box.level (bend f) pi seen.is_sag) in
           let margin_at : m *ℚ u ≤ℚ M ÷ 1 = at_most_of_same ℚ_ordered (margin_is bits low w narrow ∙ ap (λ z. z ÷ 1) (sym seen.is_margin)) in
           let sum : D ÷ 1 +ℚ M ÷ 1 ≤ℚ r.lo ÷ 1 = subst (λ z. z ≤ℚ r.lo ÷ 1) (int-add D M) (int_le (D +ℤ M) r.lo reach) in
           cancel_le (2 ^ bits) (pow_pos bits) (sag n box f +ℚ m) v

@@ -24,7 +24,8 @@ pub record IsPiAt (bits : ℕ) (L H : ℤ) (p : ℚ) : Type 0 where
 square_above : (bits : ℕ) (L H q : ℤ) (p : ℚ) → IsPiAt bits L H p → IsCeiling q (H *ℤ H) (pos (2 ^ bits)) → (p *ℚ p) *ℚ whole (2 ^ bits) ≤ℚ q ÷ 1
 square_above bits L H q p pi ceiling =
     let u = whole (2 ^ bits) in
-    let up : (H ÷ 1) *ℚ (H ÷ 1) ≤ℚ (q ÷ 1) *ℚ u = subst₂ ◌≤ℚ◌ (int-mul H H) (int-mul q (pos (2 ^ bits))) (int_le (H *ℤ H) (q *ℤ pos (2 ^ bits)) ceiling.at_least) in
+    let up : (H ÷ 1) *ℚ (H ÷ 1) ≤ℚ (q ÷ 1) *ℚ u = subst₂ ◌≤ℚ◌ (int-mul H H) (int-mul q (pos (2 ^ bits)))
+    (int_le (H *ℤ H) (q *ℤ pos (2 ^ bits)) ceiling.at_least) in
     let pu : whole 0 ≤ℚ p *ℚ u = mul_nonneg p u pi.nonneg (whole_nonneg (2 ^ bits)) in
     let h : whole 0 ≤ℚ H ÷ 1 = le_trans (whole 0) (p *ℚ u) (H ÷ 1) pu pi.high in
     cancel_le (2 ^ bits) (pow_pos bits) ((p *ℚ p) *ℚ u) (q ÷ 1)
@@ -52,7 +53,8 @@ square_below bits L H q p pi ceiling =
     (cancel_le (2 ^ bits) (pow_pos bits) ((q ÷ 1) *ℚ whole 5) (((p *ℚ p) *ℚ u +ℚ whole 9) *ℚ whole 5)
     (certified ℚ_ordered (p ∷ u ∷ (H ÷ 1) ∷ (q ÷ 1) ∷ []) ((var 3 ⊠ num 5) ⊠ var 1) ((((var 0 ⊠ var 0) ⊠ var 1 ⊞ num 9) ⊠ num 5) ⊠ var 1)
     (times (num 5) (var 3 ⊠ var 1) (var 2 ⊠ var 2 ⊞ var 1) ∷ times (num 5 ⊠ var 2) (var 2) (var 0 ⊠ var 1 ⊞ num 1)
-    ∷ times (num 5 ⊠ (var 0 ⊠ var 1 ⊞ num 1)) (var 2) (var 0 ⊠ var 1 ⊞ num 1) ∷ times (num 2 ⊠ var 1) (num 5 ⊠ var 0) (num 16) ∷ times (num 5) (num 1) (var 1) ∷ times (num 3) (num 0) (var 1) ∷ [])
+    ∷ times (num 5 ⊠ (var 0 ⊠ var 1 ⊞ num 1)) (var 2) (var 0 ⊠ var 1 ⊞ num 1) ∷ times (num 2 ⊠ var 1) (num 5 ⊠ var 0) (num 16) ∷ times (num 5) (num 1)
+    (var 1) ∷ times (num 3) (num 0) (var 1) ∷ [])
     refl (
       whole_nonneg 5,
       down,
@@ -97,7 +99,8 @@ module _ (bits : ℕ) (L H D : ℤ) (p : ℚ) (level B : ℕ) (pi : IsPiAt bits 
   pub sag_above : (whole 2 *ℚ (p *ℚ p) *ℚ (whole B *ℚ square)) *ℚ whole (2 ^ bits) ≤ℚ D ÷ 1
   sag_above =
       let up : whole 2 *ℚ (sag.square ÷ 1) *ℚ whole B ≤ℚ (D ÷ 1) *ℚ whole (2 ^ (2 * level + 2)) =
-      subst₂ ◌≤ℚ◌ product (int-mul D (pos (2 ^ (2 * level + 2)))) (int_le (pos 2 *ℤ sag.square *ℤ pos B) (D *ℤ pos (2 ^ (2 * level + 2))) sag.is_sag.at_least) in
+      subst₂ ◌≤ℚ◌ product (int-mul D (pos (2 ^ (2 * level + 2))))
+      (int_le (pos 2 *ℤ sag.square *ℤ pos B) (D *ℤ pos (2 ^ (2 * level + 2))) sag.is_sag.at_least) in
       certified ℚ_ordered (p ∷ whole (2 ^ bits) ∷ (sag.square ÷ 1) ∷ whole B ∷ square ∷ (D ÷ 1) ∷ whole (2 ^ (2 * level + 2)) ∷ [])
       ((num 2 ⊠ (var 0 ⊠ var 0) ⊠ (var 3 ⊠ var 4)) ⊠ var 1) (var 5)
       (times (num 2 ⊠ var 3 ⊠ var 4) ((var 0 ⊠ var 0) ⊠ var 1) (var 2) ∷ times (var 4) (num 2 ⊠ var 2 ⊠ var 3) (var 5 ⊠ var 6)
@@ -108,7 +111,8 @@ module _ (bits : ℕ) (L H D : ℤ) (p : ℚ) (level B : ℕ) (pi : IsPiAt bits 
   pub sag_below : (w : ℕ) → B ≤ 33800 * w → 10 ≤ level → D ÷ 1 ≤ℚ (whole 2 *ℚ (p *ℚ p) *ℚ (whole B *ℚ square)) *ℚ whole (2 ^ bits) +ℚ (whole w +ℚ whole 1)
   sag_below w bent deep =
       let down : (D ÷ 1) *ℚ whole (2 ^ (2 * level + 2)) ≤ℚ whole 2 *ℚ (sag.square ÷ 1) *ℚ whole B +ℚ whole (2 ^ (2 * level + 2)) =
-      subst₂ ◌≤ℚ◌ (int-mul D (pos (2 ^ (2 * level + 2)))) (int-add (pos 2 *ℤ sag.square *ℤ pos B) (pos (2 ^ (2 * level + 2))) ∙ ap (λ z. z +ℚ whole (2 ^ (2 * level + 2))) product)
+      subst₂ ◌≤ℚ◌ (int-mul D (pos (2 ^ (2 * level + 2)))) (int-add (pos 2 *ℤ sag.square *ℤ pos B) (pos (2 ^ (2 * level + 2))) ∙ ap
+      (λ z. z +ℚ whole (2 ^ (2 * level + 2))) product)
       (int_le (D *ℤ pos (2 ^ (2 * level + 2))) (pos 2 *ℤ sag.square *ℤ pos B +ℤ pos (2 ^ (2 * level + 2)))
       (weaker (D *ℤ pos (2 ^ (2 * level + 2))) (pos 2 *ℤ sag.square *ℤ pos B +ℤ pos (2 ^ (2 * level + 2))) sag.is_sag.near)) in
       let bends : whole B ≤ℚ whole 33800 *ℚ whole w = subst (λ z. whole B ≤ℚ z) (int-mul (pos 33800) (pos w)) (whole_le B (33800 * w) bent) in

@@ -24,7 +24,8 @@ square_size bits L H q room pi unit ceiling =
     let product : unsigned_abs (H *ℤ H) ≤ (4 * 2 ^ bits) * (4 * 2 ^ bits) = product_size H H (4 * 2 ^ bits) (4 * 2 ^ bits) small small in
     let parts : (4 * 2 ^ bits) * (4 * 2 ^ bits) ≡ (16 * 2 ^ bits) * 2 ^ bits = grind arith in
     let many : 2 ^ bits ≤ 2 ^ 60 = pow_mono room in
-    let size : unsigned_abs q ≤ 16 * 2 ^ bits = rounded_size true q (H *ℤ H) (2 ^ bits) (16 * 2 ^ bits) (pow_pos bits) ceiling (omega (arith, product, parts)) in
+    let size : unsigned_abs q ≤ 16 * 2 ^ bits = rounded_size true q (H *ℤ H) (2 ^ bits) (16 * 2 ^ bits) (pow_pos bits) ceiling
+    (omega (arith, product, parts)) in
     omega (arith, size, many)
 
 -- pi², the bend and their product
@@ -62,7 +63,8 @@ sag_of bits H q B D m level square m_is at_least ceiling = record {
 pub sag_size : (q B D m : ℤ) (level : ℕ) → m ≡ pos (2 ^ (2 * level + 2)) → IsCeiling D (pos 2 *ℤ q *ℤ B) m → unsigned_abs (pos 2 *ℤ q *ℤ B) ≤ 2 ^ 98
     → unsigned_abs D ≤ 2 ^ 98
 sag_size q B D m level m_is ceiling size =
-    rounded_not_larger true D (pos 2 *ℤ q *ℤ B) m (2 ^ 98) (subst (λ z. pos 1 ≤ℤ z) (sym m_is) (some (2 ^ (2 * level + 2)) (pow_pos (2 * level + 2)))) ceiling size
+    rounded_not_larger true D (pos 2 *ℤ q *ℤ B) m (2 ^ 98) (subst (λ z. pos 1 ≤ℤ z) (sym m_is) (some (2 ^ (2 * level + 2)) (pow_pos (2 * level + 2))))
+    ceiling size
   where
     some : (n : ℕ) → 0 < n → pos 1 ≤ℤ pos n
     some n h = omega (arith, ints)

@@ -11,7 +11,8 @@ returns-then-not-is_row_clear-clause-shift g c = subst HasShift c.functions.ensu
 
 pub loop-i-preserved : goal.loop-i-preserved
 loop-i-preserved g c =
-    up_to (λ a. (b : ℕ) → IsPlace c.args.p.now.word b → ReachesThere c.args.p.now.point c.args.place (slack c.args.low) c.args.p.now.word a b) (c.loop-i.i + 1)
+    up_to (λ a. (b : ℕ) → IsPlace c.args.p.now.word b → ReachesThere c.args.p.now.point c.args.place (slack c.args.low) c.args.p.now.word a b)
+    (c.loop-i.i + 1)
     (λ a low below. c.loop-i.invariant a low (omega (arith, below))) (c.if-not-is_row_clear.ensures.clear refl)
 
 pub returns-clause-shift : goal.returns-clause-shift

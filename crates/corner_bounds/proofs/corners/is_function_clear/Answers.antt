@@ -26,10 +26,12 @@ returns-clause-clear g c =
     let lo : FitsSigned w128 c.lo.result = record { sfits = c.lo.type_inv } in
     let tested = tested_of g.S.Scale.BITS c.args.low g.S.Scale.PI_LO g.S.Scale.PI_HI c.args.place c.functions-functions.result.now c.args.p.now.word c.args.k
     c.args.l c.bend-bend.result c.weight-weight.result c.sag-sag.result c.margin-margin.result c.bounds.result c.args.p.now.table is g.S.Scale.one_unit
-    g.S.Scale.pi_between c.requires.room c.requires.level_least (subst (λ n. IsSag g.S.Scale.BITS g.S.Scale.PI_HI n (unsigned_abs c.bend-bend.result) c.sag-sag.result)
+    g.S.Scale.pi_between c.requires.room c.requires.level_least
+    (subst (λ n. IsSag g.S.Scale.BITS g.S.Scale.PI_HI n (unsigned_abs c.bend-bend.result) c.sag-sag.result)
     (ap (λ (s : Square). s.level) c.place.view_is) (simp to_z-of_z at c.sag-sag.ensures.sag)) (simp to_z-of_z at c.margin-margin.ensures.margin)
     c.bounds.ensures.ends in
-    simp to_z-of_z (rw c.lo.ensures.value (λ h. tested_reaches g.S.Scale.BITS c.args.low g.S.Scale.PI_LO g.S.Scale.PI_HI c.args.place c.args.p.now.word c.args.k c.args.l c.sag-sag.result
+    simp to_z-of_z (rw c.lo.ensures.value (λ h. tested_reaches g.S.Scale.BITS c.args.low g.S.Scale.PI_LO g.S.Scale.PI_HI c.args.place c.args.p.now.word
+    c.args.k c.args.l c.sag-sag.result
     c.margin-margin.result c.bounds.result tested c.args.p.now.point c.bounds.ensures.holds
     ((at_most_iff (c.sag-sag.result +ℤ c.margin-margin.result) c.bounds.result.lo).0 h)))
 
@@ -51,7 +53,8 @@ returns-clause-found g c =
     let lo : FitsSigned w128 c.lo.result = record { sfits = c.lo.type_inv } in
     let tested = tested_of g.S.Scale.BITS c.args.low g.S.Scale.PI_LO g.S.Scale.PI_HI c.args.place c.functions-functions.result.now c.args.p.now.word c.args.k
     c.args.l c.bend-bend.result c.weight-weight.result c.sag-sag.result c.margin-margin.result c.bounds.result c.args.p.now.table is g.S.Scale.one_unit
-    g.S.Scale.pi_between c.requires.room c.requires.level_least (subst (λ n. IsSag g.S.Scale.BITS g.S.Scale.PI_HI n (unsigned_abs c.bend-bend.result) c.sag-sag.result)
+    g.S.Scale.pi_between c.requires.room c.requires.level_least
+    (subst (λ n. IsSag g.S.Scale.BITS g.S.Scale.PI_HI n (unsigned_abs c.bend-bend.result) c.sag-sag.result)
     (ap (λ (s : Square). s.level) c.place.view_is) (simp to_z-of_z at c.sag-sag.ensures.sag)) (simp to_z-of_z at c.margin-margin.ensures.margin)
     c.bounds.ensures.ends in
     let low : 4 ≤ c.args.low = omega (arith, c.requires.low) in

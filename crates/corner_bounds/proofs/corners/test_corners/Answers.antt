@@ -10,15 +10,18 @@ returns-then-not-is_clear_at-clause-found g c = λ clear. c.if-not-is_clear_at.e
 
 pub returns-then-not-is_clear_at-2-clause-found : goal.returns-then-not-is_clear_at-2-clause-found
 returns-then-not-is_clear_at-2-clause-found g c = λ clear. c.if-not-is_clear_at-2.ensures.found
-    (reaches_at c.args.place (slack (c.args.low - 4)) c.args.p.now.word c.is_clear_at.new.p.word (c.is_clear_at.ensures.word) clear 1 0 (omega arith) (omega arith))
+    (reaches_at c.args.place (slack (c.args.low - 4)) c.args.p.now.word c.is_clear_at.new.p.word (c.is_clear_at.ensures.word) clear 1 0 (omega arith)
+    (omega arith))
 
 pub returns-then-not-is_clear_at-3-clause-found : goal.returns-then-not-is_clear_at-3-clause-found
 returns-then-not-is_clear_at-3-clause-found g c = λ clear. c.if-not-is_clear_at-3.ensures.found
-    (reaches_at c.args.place (slack (c.args.low - 4)) c.args.p.now.word c.is_clear_at-2.new.p.word (c.is_clear_at-2.ensures.word ∙ c.is_clear_at.ensures.word) clear 0 1 (omega arith) (omega arith))
+    (reaches_at c.args.place (slack (c.args.low - 4)) c.args.p.now.word c.is_clear_at-2.new.p.word
+    (c.is_clear_at-2.ensures.word ∙ c.is_clear_at.ensures.word) clear 0 1 (omega arith) (omega arith))
 
 pub returns-clause-found : goal.returns-clause-found
 returns-clause-found g c = λ clear. c.is_clear_at-4.ensures.found
-    (reaches_at c.args.place (slack (c.args.low - 4)) c.args.p.now.word c.is_clear_at-3.new.p.word (c.is_clear_at-3.ensures.word ∙ (c.is_clear_at-2.ensures.word ∙ c.is_clear_at.ensures.word)) clear 1 1 (omega arith) (omega arith))
+    (reaches_at c.args.place (slack (c.args.low - 4)) c.args.p.now.word c.is_clear_at-3.new.p.word
+    (c.is_clear_at-3.ensures.word ∙ (c.is_clear_at-2.ensures.word ∙ c.is_clear_at.ensures.word)) clear 1 1 (omega arith) (omega arith))
 
 pub returns-clause-clear : goal.returns-clause-clear
 returns-clause-clear g c = λ h.

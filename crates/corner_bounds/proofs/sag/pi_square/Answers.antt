@@ -6,13 +6,15 @@ use Rattle.corner_bounds.proofs.sag.pi_square.Goals as goal
 
 pub mul-requires-clause-first_factor : goal.mul-requires-clause-first_factor
 mul-requires-clause-first_factor g c =
-    let is = pi_at g.S.Scale.BITS g.S.Scale.PI_LO g.S.Scale.PI_HI c.PI_HI.result g.S.Scale.bits_in_range.1 g.S.Scale.pi_between g.S.Scale.one_unit c.PI_HI.ensures in
+    let is = pi_at g.S.Scale.BITS g.S.Scale.PI_LO g.S.Scale.PI_HI c.PI_HI.result g.S.Scale.bits_in_range.1 g.S.Scale.pi_between g.S.Scale.one_unit
+    c.PI_HI.ensures in
     let fits = is.fits in
     simp to_z-of_z is.size
 
 pub mul-requires-clause-second_factor : goal.mul-requires-clause-second_factor
 mul-requires-clause-second_factor g c =
-    let is = pi_at g.S.Scale.BITS g.S.Scale.PI_LO g.S.Scale.PI_HI c.PI_HI-2.result g.S.Scale.bits_in_range.1 g.S.Scale.pi_between g.S.Scale.one_unit c.PI_HI-2.ensures in
+    let is = pi_at g.S.Scale.BITS g.S.Scale.PI_LO g.S.Scale.PI_HI c.PI_HI-2.result g.S.Scale.bits_in_range.1 g.S.Scale.pi_between g.S.Scale.one_unit
+    c.PI_HI-2.ensures in
     let fits = is.fits in
     simp to_z-of_z is.size
 
