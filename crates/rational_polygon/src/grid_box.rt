@@ -67,13 +67,15 @@ impl GridBox {
         self.is_beyond(polygon) || self.is_right_of_an_edge(polygon)
     }
 
-    // The corner `(a, b)`, where `(0, 0)` is lower left and `(1, 1)` upper right.
-    fn corner(self, a: u32, b: u32) -> (Frac, Frac)
+    /// The corner `(a, b)`, where `(0, 0)` is lower left and `(1, 1)` upper right, over the denominator `2^level`.
+    pub fn corner(self, a: u32, b: u32) -> (Frac, Frac)
         requires a { a ≤ 1 }
         requires b { b ≤ 1 }
         ensures x { result.0 ≡ record { num = pos (self.i + a); den = 2 ^ self.level } }
         ensures y { result.1 ≡ record { num = pos (self.j + b); den = 2 ^ self.level } }
         ensures small { 2 ^ self.level ≤ 2 ^ MAX_LEVEL }
+        ensures is_corner { record { x = value result.0; y = value result.1 } ≡ box_corner self a b }
+        ensures is_box { IsBox self }
     {
         (
             dyadic(self.i + a, self.level),

@@ -13,7 +13,14 @@ invariant_of-self g c =
     let dirs = λ (es : List SineLow). map (λ (e : SineLow). e.dir) es in
     let same : dirs c.fill.new.table ≡ dirs i.table.items = c.fill.ensures.directions ∙ ap dirs c.deref_mut.ensures.value in
     let len : length c.fill.new.table ≡ i.table.len =
-    omega (arith, sym (length-map c.fill.new.table (λ (e : SineLow). e.dir)), ap length same, length-map i.table.items (λ (e : SineLow). e.dir), i.table.ok.0) in
+    omega (
+      arith,
+      sym (length-map c.fill.new.table (λ (e : SineLow). e.dir)),
+      ap length same,
+      length-map i.table.items (λ
+          (e : SineLow). e.dir),
+      i.table.ok.0,
+    ) in
     let table_is = take_at c.fill.new.table (drop (length c.fill.new.table) i.table.items) i.table.len len in
     let us_len : length c.number_uppers.new.numbers ≡ i.uppers.len =
     omega (arith, c.number_uppers.ensures.count, ap length c.self.invariant.same_word, c.self.invariant.uppers.count, i.uppers.ok.0) in
@@ -23,7 +30,8 @@ invariant_of-self g c =
     let ls_is = take_at c.number_lowers.new.numbers (drop (length c.number_lowers.new.numbers) i.lowers.items) i.lowers.len ls_len in
     filled_again g.S.Scale.BITS i.word i.functions i.most i.point i.table.items c.fill.new.table _ i.uppers.items i.lowers.items c.number_uppers.new.numbers
     c.number_lowers.new.numbers _ _ c.args.x c.args.y c.self.invariant same
-    (subst₂ (λ x y. All (IsLowAt g.S.Scale.BITS x y) c.fill.new.table) c.over_one_denominator-at.ensures.first c.over_one_denominator-at.ensures.second c.fill.ensures.lows)
+    (subst₂ (λ x y. All (IsLowAt g.S.Scale.BITS x y) c.fill.new.table) c.over_one_denominator-at.ensures.first
+    c.over_one_denominator-at.ensures.second c.fill.ensures.lows)
     c.fill.ensures.small
     (subst (λ es. AreUppers i.functions es c.number_uppers.new.numbers) (c.deref.ensures.value ∙ table_is) c.number_uppers.ensures)
     (subst (λ es. AreLowers i.functions es c.number_lowers.new.numbers) (c.deref-2.ensures.value ∙ table_is) c.number_lowers.ensures)

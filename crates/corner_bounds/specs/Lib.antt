@@ -1,0 +1,3 @@
+pub mod Sag
+pub mod Reaching
+pub mod Laws

@@ -1,0 +1,30 @@
+use crate::test_corners;
+use edge_words::Word;
+use gradient_bounds::Prepared;
+use pi_bounds::Fine;
+use rational_polygon::GridBox;
+use std::test::Fail;
+
+fn place(i: u32, j: u32) -> GridBox {
+    GridBox { i, j, level: 10 }
+}
+
+// Near the rim of the tile of 123123 the corners show what the centre does not.
+#[test]
+fn sees_more_than_the_centre(rt: HostRuntime) -> Result<(), Fail> {
+    let word = Word::read(rt.alloc(), b"123123")?;
+    let mut prepared = Prepared::<Fine>::new(rt.alloc(), &word)?;
+    assert!(rt; !prepared.test_box(place(510, 256)));
+    assert!(rt; test_corners::<Fine>(&mut prepared, place(510, 256), 36));
+    assert!(rt; prepared.point().is_some());
+    assert!(rt; prepared.word().letters() == word.letters());
+    Ok(())
+}
+
+#[test]
+fn sees_nothing_outside_the_tile(rt: HostRuntime) -> Result<(), Fail> {
+    let word = Word::read(rt.alloc(), b"123123")?;
+    let mut prepared = Prepared::<Fine>::new(rt.alloc(), &word)?;
+    assert!(rt; !test_corners::<Fine>(&mut prepared, place(100, 100), 36));
+    Ok(())
+}
