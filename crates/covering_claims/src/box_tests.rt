@@ -58,6 +58,26 @@ fn tests_points(rt: HostRuntime) -> Result<(), Fail> {
     Ok(())
 }
 
+// The heights of 123123 have nine directions. What is shut is asked of the same table as what is clear.
+#[test]
+fn computes_each_sine_once(rt: HostRuntime) -> Result<(), Fail> {
+    let word = Word::read(rt.alloc(), b"123123")?;
+    let mut prepared = Prepared::<Fine>::new(rt.alloc(), &word)?;
+    let place = GridBox {
+        i: 42,
+        j: 42,
+        level: 7,
+    };
+    let before = prepared.sines();
+    assert!(rt; prepared.test_box(place));
+    let after = prepared.sines();
+    assert!(rt; before < after);
+    assert!(rt; after - before <= 9);
+    assert!(rt; !prepared.shut_box(place));
+    assert_eq!(rt; prepared.sines(), after);
+    Ok(())
+}
+
 #[test]
 fn tests_boxes_for_123123(rt: HostRuntime) -> Result<(), Fail> {
     let word = Word::read(rt.alloc(), b"123123")?;

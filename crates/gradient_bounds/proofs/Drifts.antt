@@ -1,9 +1,8 @@
 -- Thresholds in units: the drift of a function in a neighbourhood, rounded up, and its margin.
 use Rattle.std.proofs.Common.{◌≡◌, refl, sym, ap, ◌∙◌, subst, subst₂, ℕ, ◌+◌, ◌-◌, ◌*◌, ◌^◌, ◌<◌, ◌≤◌, ℤ, pos, negsuc, ◌+ℤ◌, ◌*ℤ◌, ◌≤ℤ◌, ◌<ℤ◌}
-use Rattle.std.proofs.Common.{unsigned_abs, FitsSigned, to_z, of_z, true, [], ◌∷◌, arith, mul-le-mul, mul-le-mul_right}
+use Rattle.std.proofs.Common.{unsigned_abs, [], ◌∷◌, arith, mul-le-mul_right}
 use Rattle.std.proofs.Math.Pow.{pow_mono}
-use Rattle.std.proofs.lemmas.Int.{ints, to_z-of_z, fits_signed_from_abs}
-use Rattle.std.specs.Int.{w64, w128}
+use Rattle.std.proofs.lemmas.Int.{ints}
 use Rattle.std.proofs.lemmas.Nat.{pow-add, pow_pos}
 use Rattle.ring_solver.specs.Expression.{num, ◌⊞◌, ◌⊠◌}
 use Rattle.ring_solver.specs.Ordered.{le, times}
@@ -20,13 +19,9 @@ use Rattle.trig_meaning.specs.FromSomeOn.{FromSomeOn}
 use Rattle.trig_meaning.proofs.FromSomeOnLaws.{onward}
 use Rattle.directed_fixed.specs.Rounding.{IsCeiling}
 use Rattle.directed_fixed.specs.Ends.{Encloses}
-use Rattle.directed_fixed.proofs.Rounding.{product_size, rounded_not_larger}
-use Rattle.directed_fixed.proofs.PiSums.{pi_size}
-use Rattle.defining_functions.specs.Functions.{IsWithinFunctionLimits}
 use Rattle.gradient_bounds.specs.Clear.{slack}
 use Rattle.gradient_bounds.specs.Neighbourhood.{threshold_of}
 use Rattle.gradient_bounds.proofs.Margins.{slack_units}
-use Rattle.gradient_bounds.proofs.Turning.{fits_128}
 
 -- ---- radii
 

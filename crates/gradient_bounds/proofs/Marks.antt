@@ -1,15 +1,14 @@
 -- The sum of the directions of a word's heights, and the table that is made of it.
-use Rattle.std.proofs.Common.{◌≡◌, ◌≢◌, refl, sym, ap, ap₂, ◌∙◌, subst, ℕ, zero, suc, ◌+◌, ◌-◌, ◌*◌, ◌^◌, add-one, ◌<◌, ◌≤◌, List, [], ◌∷◌, ◌++◌, map, take, length, get_or, arith}
-use Rattle.std.proofs.Common.{Bool, true, false, not, ◌||◌, if◌then◌else◌, ℤ, pos, ◌+ℤ◌, unsigned_abs, ◌⊎◌, inl, inr, T, append_assoc}
+use Rattle.std.proofs.Common.{◌≡◌, ◌≢◌, refl, sym, ap, ap₂, ◌∙◌, subst, ℕ, zero, suc, ◌+◌, add-one, ◌<◌, ◌≤◌, List, [], ◌∷◌, ◌++◌, map, take, length, get_or, arith}
+use Rattle.std.proofs.Common.{Bool, true, false, ◌||◌, if◌then◌else◌, ℤ, pos, ◌+ℤ◌, unsigned_abs, ◌⊎◌, inl, inr, T, append_assoc}
 use Rattle.std.specs.List.{All, Any, AllPairs}
-use Rattle.std.specs.Ordering.{is_lt, int_eq}
+use Rattle.std.specs.Ordering.{is_lt}
 use Rattle.std.specs.declared.cmp.Ordering.TheVariants.{Less}
 use Rattle.std.proofs.lemmas.Bool.{cases_lt}
 use Rattle.std.proofs.lemmas.Int.{ints}
 use Rattle.std.proofs.lemmas.List.{get_or_default, take_more, take_all}
-use Rattle.std.proofs.lemmas.List.Elements.{All-nil, All-cons, All-map, All-get_or, All-from_get_or}
+use Rattle.std.proofs.lemmas.List.Elements.{All-nil, All-cons, All-map}
 use Rattle.std.proofs.lemmas.List.Kept.{AllPairs-cons}
-use Rattle.edge_words.specs.Letters.{IsPlace}
 use Rattle.exp_sums.specs.declared.direction.Dir.{Dir}
 use Rattle.exp_sums.specs.declared.terms.Term.{Term}
 use Rattle.exp_sums.specs.Terms.{dir_cmp, is_same_dir, total_at, is_before_all, is_canonical}
@@ -24,12 +23,10 @@ use Rattle.exp_sums.proofs.Totals.{is_not_zero}
 use Rattle.exp_sums.proofs.Weights.{terms_weight-cons, weight-+ₚ, weight-monomial, weight-zero_point}
 use Rattle.exp_sums.proofs.Within.{IsWithin-weaker, IsWithin-+ₚ, IsWithin-monomial, IsWithin-zero_point}
 use Rattle.unfolding.specs.Shift.{IsShift, HasShift}
-use Rattle.unfolding.proofs.Shifts.{same_shift}
 use Rattle.defining_functions.specs.Heights.{upper_height, lower_height}
 use Rattle.gradient_bounds.specs.declared.sine_low.SineLow.{SineLow}
 use Rattle.gradient_bounds.specs.Table.{HasDir, IsDirOfHeight, IsTableOf}
 use Rattle.gradient_bounds.specs.Kept.{IsSmallEntry, has_dir, height_terms, IsMarkOf}
-use Rattle.gradient_bounds.proofs.Sums.{any_at}
 
 -- ---- tests
 
@@ -186,7 +183,7 @@ heights_have v w (suc i) d h =
     by_tests false p false q true r all before = (suc i, omega arith, omega arith, inr (has_dir_some (terms (lower_height v w (suc i))) d r))
     by_tests false p false q false r all before =
         let no : false ≡ true = sym (ap (λ b. b || (has_dir (terms (upper_height v w (suc i))) d || has_dir (terms (lower_height v w (suc i))) d)) p
-            ∙ ap (λ b. b || has_dir (terms (lower_height v w (suc i))) d) q ∙ r) ∙ all in absurd cc
+        ∙ ap (λ b. b || has_dir (terms (lower_height v w (suc i))) d) q ∙ r) ∙ all in absurd cc
 
 have_heights : (v : FormalPoint) (w : List ℕ) (i k : ℕ) (d : Dir) → 1 ≤ k → k ≤ i → HasDir (upper_height v w k) d ⊎ HasDir (lower_height v w k) d
     → has_dir (height_terms v w i) d ≡ true
@@ -300,9 +297,9 @@ pub next_heights : (v : FormalPoint) (w : List ℕ) (i : ℕ) (p q r : FormalPoi
 next_heights v w i p q r uppers lowers uppers_are lowers_are mark first second =
     let place : i + 1 ≡ suc i = add-one i in
     let all : (height_terms v w i ++ uppers) ++ lowers ≡ height_terms v w (i + 1) =
-        append_assoc (height_terms v w i) uppers lowers
-        ∙ ap₂ (λ us ls. height_terms v w i ++ (us ++ ls)) (uppers_are ∙ ap (λ j. terms (upper_height v w j)) place) (lowers_are ∙ ap (λ j. terms (lower_height v w j)) place)
-        ∙ ap (height_terms v w) (sym place) in
+    append_assoc (height_terms v w i) uppers lowers
+    ∙ ap₂ (λ us ls. height_terms v w i ++ (us ++ ls)) (uppers_are ∙ ap (λ j. terms (upper_height v w j)) place) (lowers_are ∙ ap (λ j. terms (lower_height v w j)) place)
+    ∙ ap (height_terms v w) (sym place) in
     subst (λ ts. IsMarkOf ts r) all (second (height_terms v w i ++ uppers) (first (height_terms v w i) mark))
 
 -- the table as it is pushed

@@ -1,7 +1,6 @@
 -- Lists of numbers, one for each edge.
 use Rattle.std.proofs.Common.{◌≡◌, ◌≢◌, sym, ap, ap₂, ◌∙◌, subst, ℕ, ◌+◌, ◌-◌, ◌^◌, ◌<◌, ◌≤◌, List, length, get_or, set, ℤ, pos, ◌-ℤ◌, unsigned_abs, arith, below_more}
 use Rattle.std.proofs.Common.{get_or-set_other, get_or-set_same}
-use Rattle.std.specs.List.{All}
 use Rattle.ring_solver.proofs.Whole.{ℤ_ring, ℤ_image}
 use Rattle.edge_words.specs.Letters.{IsPlace}
 use Rattle.exp_sums.specs.declared.terms.Term.{Term}

@@ -1,29 +1,17 @@
 -- What the whole number of a function at the centre of a neighbourhood says of two slacks.
-use Rattle.std.proofs.Common.{◌≡◌, refl, sym, ap₂, ◌∙◌, subst, ℕ, ◌+◌, ◌*◌, ◌^◌, ◌≤◌, ℤ, pos, ◌+ℤ◌, ◌-ℤ◌, ◌*ℤ◌, neg_ℤ, ◌≤ℤ◌, unsigned_abs, List, [], ◌∷◌, arith}
-use Rattle.std.specs.List.{All}
+use Rattle.std.proofs.Common.{◌≡◌, refl, ℕ, ◌+◌, ◌*◌, ◌^◌, ◌≤◌, ℤ, pos, ◌+ℤ◌, ◌-ℤ◌, ◌*ℤ◌, neg_ℤ, ◌≤ℤ◌, unsigned_abs, arith}
 use Rattle.std.proofs.lemmas.Int.{ints}
-use Rattle.std.proofs.lemmas.List.Elements.{All-head, All-tail}
-use Rattle.ring_solver.specs.Expression.{num, ◌⊞◌, ◌⊟◌, ◌⊠◌, opp}
-use Rattle.ring_solver.specs.Ordered.{le, times}
-use Rattle.ring_solver.specs.Whole.{ℤ_ring, ℤ_image}
-use Rattle.ring_solver.proofs.Certificate.{le₃, le₄}
-use Rattle.rat_core.specs.Fraction.{ℚ, ◌÷◌, whole, ◌+ℚ◌, ◌-ℚ◌, ◌*ℚ◌, ◌≤ℚ◌, abs}
-use Rattle.rat_core.proofs.Laws.{ℚ_ordered, int-add, int-sub}
-use Rattle.rat_core.proofs.Order.{le_abs, neg_le_abs}
-use Rattle.exp_sums.specs.declared.terms.Term.{Term}
-use Rattle.exp_sums.specs.FormalPoint.{FormalPoint, terms}
-use Rattle.exp_sums.specs.Limits.{weight, terms_weight}
+use Rattle.rat_core.specs.Fraction.{◌÷◌, whole, ◌*ℚ◌, ◌≤ℚ◌}
+use Rattle.exp_sums.specs.FormalPoint.{FormalPoint}
+use Rattle.exp_sums.specs.Limits.{weight}
 use Rattle.exp_sums.specs.Reach.{reach}
 use Rattle.trig_meaning.specs.PartialSums.{pi_sum}
 use Rattle.trig_meaning.specs.FromSomeOn.{FromSomeOn}
 use Rattle.trig_meaning.specs.Value.{value_at}
-use Rattle.trig_meaning.proofs.FromSomeOnLaws.{onward}
 use Rattle.directed_fixed.specs.Ends.{Ends, Encloses}
 use Rattle.gradient_bounds.specs.declared.neighbourhood.Neighbourhood.{Neighbourhood}
-use Rattle.defining_functions.specs.Functions.{IsWithinFunctionLimits}
-use Rattle.gradient_bounds.specs.Angles.{value_of_terms}
 use Rattle.gradient_bounds.specs.Clear.{slack}
-use Rattle.gradient_bounds.specs.Neighbourhood.{IsNeighbourhood, Ball, ball_of, threshold_of, IsClearIn, IsShutIn}
+use Rattle.gradient_bounds.specs.Neighbourhood.{IsNeighbourhood, ball_of, threshold_of, IsClearIn, IsShutIn}
 use Rattle.gradient_bounds.specs.Decision.{drift_units, margin_units, threshold_units, needed}
 use Rattle.gradient_bounds.proofs.Computed.{rounded_up_is_ceiling}
 use Rattle.gradient_bounds.proofs.Drifts.{IsDrift, drift_of, threshold_enough, threshold_little}

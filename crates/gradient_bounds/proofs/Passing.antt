@@ -1,6 +1,6 @@
 -- What the ends of an interval for a value say of two slacks.
-use Rattle.std.proofs.Common.{◌≡◌, refl, sym, subst, ℕ, ◌*◌, ◌^◌, ℤ, pos, ◌+ℤ◌, ◌-ℤ◌, neg_ℤ, ◌≤ℤ◌, ◌≤◌, unsigned_abs, FitsSigned, Bool, true, false}
-use Rattle.std.proofs.Common.{T, [], ◌∷◌, List, arith}
+use Rattle.std.proofs.Common.{refl, sym, subst, ℕ, ◌*◌, ◌^◌, ℤ, pos, ◌+ℤ◌, ◌-ℤ◌, neg_ℤ, ◌≤ℤ◌, ◌≤◌, unsigned_abs, FitsSigned, Bool, true, false}
+use Rattle.std.proofs.Common.{T, [], ◌∷◌, arith}
 use Rattle.std.proofs.lemmas.Int.{ints, fits_signed_from_abs}
 use Rattle.std.specs.Int.{w128}
 use Rattle.std.proofs.lemmas.Nat.{pow_pos}
@@ -12,14 +12,12 @@ use Rattle.ring_solver.proofs.Certificate.{le₂, le₃, le₄}
 use Rattle.rat_core.specs.Fraction.{ℚ, ◌÷◌, whole, neg_ℚ, ◌*ℚ◌, ◌≤ℚ◌}
 use Rattle.rat_core.proofs.Laws.{ℚ_ordered, le_trans, int-neg}
 use Rattle.rat_core.proofs.Order.{int_le, int_le_back, whole_nonneg, cancel_le}
-use Rattle.exp_sums.specs.FormalPoint.{FormalPoint, terms}
-use Rattle.exp_sums.specs.declared.terms.Term.{Term}
-use Rattle.exp_sums.specs.Limits.{weight, terms_weight}
+use Rattle.exp_sums.specs.FormalPoint.{FormalPoint}
+use Rattle.exp_sums.specs.Limits.{weight}
 use Rattle.trig_meaning.specs.FromSomeOn.{FromSomeOn}
 use Rattle.trig_meaning.specs.Value.{value_at}
 use Rattle.trig_meaning.proofs.FromSomeOnLaws.{onward_both, somewhere}
 use Rattle.directed_fixed.specs.Ends.{Ends, Encloses}
-use Rattle.gradient_bounds.specs.Angles.{value_of_terms}
 use Rattle.gradient_bounds.specs.Clear.{slack}
 use Rattle.gradient_bounds.specs.Neighbourhood.{Ball, threshold_of, IsClearIn, IsShutIn}
 

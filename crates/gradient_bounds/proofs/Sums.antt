@@ -1,6 +1,6 @@
 -- Numbers by a table of sines: their size, and how near they are to values.
-use Rattle.std.proofs.Common.{◌≡◌, refl, sym, ap, ◌∙◌, subst, subst₂, ℕ, zero, suc, ◌+◌, ◌-◌, ◌*◌, ◌^◌, ◌<◌, ◌≤◌, List, [], ◌∷◌, ◌++◌, map, length, get_or}
-use Rattle.std.proofs.Common.{Bool, true, false, if◌then◌else◌, ℤ, pos, ◌+ℤ◌, ◌-ℤ◌, ◌*ℤ◌, neg_ℤ, ◌≤ℤ◌, unsigned_abs, arith, ◌⊎◌, inl, inr}
+use Rattle.std.proofs.Common.{◌≡◌, refl, sym, ap, ◌∙◌, subst, subst₂, ℕ, zero, suc, ◌+◌, ◌*◌, ◌^◌, ◌<◌, ◌≤◌, List, [], ◌∷◌, ◌++◌, map, length, get_or}
+use Rattle.std.proofs.Common.{Bool, true, false, if◌then◌else◌, ℤ, pos, ◌+ℤ◌, ◌-ℤ◌, ◌*ℤ◌, ◌≤ℤ◌, unsigned_abs, arith, inl, inr}
 use Rattle.std.proofs.Common.{take, set, FitsSigned, to_z, of_z}
 use Rattle.std.specs.Int.{w64, w128, int_min, int_max}
 use Rattle.std.specs.List.{All, Any, AllWithin}
@@ -13,7 +13,7 @@ use Rattle.ring_solver.specs.Expression.{num, ◌⊞◌, ◌⊠◌}
 use Rattle.ring_solver.proofs.Solver.{ring₁, ring₂}
 use Rattle.ring_solver.proofs.Whole.{ℤ_ring, ℤ_image}
 use Rattle.rat_core.specs.Fraction.{ℚ, ◌÷◌, whole, ◌+ℚ◌, ◌*ℚ◌, ◌≤ℚ◌}
-use Rattle.rat_core.proofs.Laws.{ℚ_ring, ℚ_image, le_refl, le_trans}
+use Rattle.rat_core.proofs.Laws.{ℚ_ring, le_refl, le_trans}
 use Rattle.rat_core.proofs.Order.{int_le}
 use Rattle.edge_words.specs.Letters.{IsPlace}
 use Rattle.exp_sums.specs.declared.direction.Dir.{Dir}
@@ -21,9 +21,9 @@ use Rattle.exp_sums.specs.declared.terms.Term.{Term}
 use Rattle.std.specs.declared.cmp.Ordering.TheVariants.{Less, Equal}
 use Rattle.exp_sums.specs.Terms.{dir_cmp, is_same_dir}
 use Rattle.exp_sums.proofs.Totals.{same_dir}
-use Rattle.exp_sums.specs.FormalPoint.{FormalPoint, terms, point_of, term_neg, zero_dir, ◌+ₚ◌, ◌-ₚ◌, negative}
-use Rattle.exp_sums.specs.Limits.{terms_weight, weight, IsNear}
-use Rattle.exp_sums.specs.Weigh.{weigh_terms, weigh_ints}
+use Rattle.exp_sums.specs.FormalPoint.{FormalPoint, terms, term_neg, zero_dir, ◌+ₚ◌, ◌-ₚ◌, negative}
+use Rattle.exp_sums.specs.Limits.{terms_weight, IsNear}
+use Rattle.exp_sums.specs.Weigh.{weigh_terms}
 use Rattle.exp_sums.proofs.Directions.{is_same_dir-Decides}
 use Rattle.exp_sums.proofs.Numbers.{weighing_linear}
 use Rattle.exp_sums.proofs.Weigh.{weigh_terms-append}
@@ -43,7 +43,7 @@ use Rattle.defining_functions.specs.Heights.{upper_height, lower_height}
 use Rattle.defining_functions.proofs.Differences.{function_difference}
 use Rattle.gradient_bounds.specs.declared.sine_low.SineLow.{SineLow}
 use Rattle.gradient_bounds.specs.Angles.{value_of_terms}
-use Rattle.gradient_bounds.specs.Table.{HasDir, IsDirOfHeight, IsRising, IsTableOf, IsLowAt, low_in, number_in, bounds_in}
+use Rattle.gradient_bounds.specs.Table.{IsRising, IsTableOf, IsLowAt, low_in, number_in, bounds_in}
 use Rattle.gradient_bounds.specs.Kept.{IsSmallEntry}
 
 -- ---- what the table says of a direction
@@ -312,7 +312,7 @@ pub next_entry : (bits : ℕ) (x y : ℚ) (old : List Dir) (es : List SineLow) (
     → All (λ (e : SineLow). IsNear 130 e.dir) es → AllWithin (IsLowAt bits x y) es 0 i → AllWithin IsSmallEntry es 0 i
     → IsSineFrom bits x y low (get_or es i blank_entry).dir → unsigned_abs low ≤ 2 ^ 62
     → let more = set es i (record { dir = (get_or es i blank_entry).dir; low = low }) in
-      (map (λ (e : SineLow). e.dir) more ≡ old) × (All (λ (e : SineLow). IsNear 130 e.dir) more) × (AllWithin (IsLowAt bits x y) more 0 (i + 1)) × (AllWithin IsSmallEntry more 0 (i + 1))
+    (map (λ (e : SineLow). e.dir) more ≡ old) × (All (λ (e : SineLow). IsNear 130 e.dir) more) × (AllWithin (IsLowAt bits x y) more 0 (i + 1)) × (AllWithin IsSmallEntry more 0 (i + 1))
 next_entry bits x y old es i low below same near lows small sine size =
     let e : SineLow = record { dir = (get_or es i blank_entry).dir; low = low } in
     let here : IsNear 130 e.dir = All-get_or (λ (e : SineLow). IsNear 130 e.dir) es i blank_entry below near in (

@@ -1,24 +1,23 @@
 -- What a `Prepared` keeps, and what its tests and bounds answer.
 use Rattle.std.proofs.Common.{◌≡◌, refl, sym, ap, ap₂, ◌∙◌, subst, subst₂, ℕ, zero, suc, ◌+◌, ◌-◌, ◌*◌, ◌^◌, ◌<◌, ◌≤◌, List, [], ◌∷◌, map, length, get_or, ℤ, pos, ◌+ℤ◌, ◌-ℤ◌, ◌*ℤ◌}
-use Rattle.std.proofs.Common.{◌≤ℤ◌, unsigned_abs, FitsSigned, to_z, of_z, lit<, arith, Some, None, Option}
+use Rattle.std.proofs.Common.{◌≤ℤ◌, unsigned_abs, FitsSigned, lit<, arith, Some, None, Option}
 use Rattle.std.specs.Prelude.{◌↔◌, IfSome}
 use Rattle.std.specs.Int.{w64, w128}
-use Rattle.std.specs.List.{All, Any}
+use Rattle.std.specs.List.{All}
 use Rattle.std.specs.declared.cmp.Ordering.TheVariants.{Less}
 use Rattle.std.proofs.Math.Pow.{pow_mono}
 use Rattle.std.proofs.lemmas.Nat.{pow_pos}
 use Rattle.std.proofs.lemmas.Grind.{pow_more}
-use Rattle.std.proofs.lemmas.Int.{ints, to_z-of_z, fits_signed_from_abs}
+use Rattle.std.proofs.lemmas.Int.{ints, fits_signed_from_abs}
 use Rattle.std.proofs.lemmas.List.{length-map}
 use Rattle.ring_solver.proofs.Whole.{pos_le}
-use Rattle.rat_core.specs.Fraction.{ℚ, ◌÷◌, whole, ◌≤ℚ◌}
+use Rattle.rat_core.specs.Fraction.{whole, ◌≤ℚ◌}
 use Rattle.rat_core.specs.Written.{Written, value}
 use Rattle.rat_core.proofs.Laws.{over_le}
 use Rattle.rat_core.proofs.Order.{over_nonneg}
 use Rattle.edge_words.specs.Letters.{IsPlace}
 use Rattle.edge_words.specs.Stable.{IsStable}
 use Rattle.edge_words.specs.Word.{IsWord}
-use Rattle.exp_sums.specs.declared.direction.Dir.{Dir}
 use Rattle.exp_sums.specs.Terms.{dir_cmp}
 use Rattle.exp_sums.specs.FormalPoint.{FormalPoint}
 use Rattle.exp_sums.specs.Limits.{weight}
@@ -39,7 +38,7 @@ use Rattle.gradient_bounds.specs.Kept.{IsFilledAt, IsSmallEntry, IsNumberOf, Are
 use Rattle.gradient_bounds.specs.Neighbourhood.{IsNeighbourhood, ball_of, IsClearIn, IsShutIn}
 use Rattle.gradient_bounds.specs.Table.{PreparedWord, IsDirOfHeight, IsTableOf, IsLowAt, number_in, bounds_in, centre_of, LowerEndReaches, UpperEndFalls}
 use Rattle.gradient_bounds.proofs.EachFunction.{has_shift}
-use Rattle.gradient_bounds.proofs.Numbering.{are_numbers, number_at, difference_is}
+use Rattle.gradient_bounds.proofs.Numbering.{are_numbers, number_at}
 use Rattle.gradient_bounds.proofs.Numbers.{IsScale}
 use Rattle.gradient_bounds.proofs.Sums.{any_at, IsListed, number_difference, upper_listed, lower_listed, function_listed, bounds_hold}
 use Rattle.gradient_bounds.proofs.Tested.{IsTested, IsDriftIn, each_decided, each_clear, clear_each, some_decided, some_shut, shut_some}
@@ -222,7 +221,7 @@ module _ (bits : ℕ) (w u : List ℕ) (m : Most) (p : Option (Written × Writte
       let weight_is = subst (λ x. (v : FormalPoint) → IsShift x v → z ≡ pos (weight (form x v))) h.same_word weighs in
       let here = weight_is shift.0 shift.1 in
       let ends : (r : Ends) → r ≡ record { lo = c -ℤ pos (256 * unsigned_abs z); hi = c +ℤ pos (256 * unsigned_abs z) } → (v : FormalPoint) → IsShift w v → r ≡ bounds_in table (form w v) =
-          λ r r_is v is. ends_are table (form w v) r c (unsigned_abs z) r_is (number v is) (ap unsigned_abs (weight_is v is)) in
+      λ r r_is v is. ends_are table (form w v) r c (unsigned_abs z) r_is (number v is) (ap unsigned_abs (weight_is v is)) in
       subst (λ (n : PreparedWord). IsBound bits n form c z) view (record {
         number_fits = fits_signed_from_abs w128 c (omega (arith, size));
         size = omega (arith, size);

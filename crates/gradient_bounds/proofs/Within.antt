@@ -1,5 +1,5 @@
 -- A word that is shut on a box is shut on each box within it.
-use Rattle.std.proofs.Common.{◌≡◌, refl, ℕ, ◌+◌, ◌*◌, ◌^◌, ◌<◌, List, [], ◌∷◌, arith}
+use Rattle.std.proofs.Common.{◌≡◌, refl, ℕ, ◌+◌, ◌*◌, ◌^◌, [], ◌∷◌, arith}
 use Rattle.std.proofs.Math.Pow.{pow_pos}
 use Rattle.ring_solver.specs.Expression.{num, ◌⊞◌, ◌⊟◌, ◌⊠◌, opp}
 use Rattle.ring_solver.specs.Ordered.{le, same}
@@ -7,7 +7,7 @@ use Rattle.ring_solver.proofs.Solver.{ring₄}
 use Rattle.ring_solver.proofs.Certificate.{le₆, moved}
 use Rattle.rat_core.specs.Fraction.{ℚ, whole, neg_ℚ, ◌+ℚ◌, ◌-ℚ◌, ◌*ℚ◌, ◌≤ℚ◌, abs}
 use Rattle.rat_core.proofs.Laws.{ℚ_ring, ℚ_ordered, le_refl}
-use Rattle.rat_core.proofs.Order.{abs_le, le_abs, neg_le_abs}
+use Rattle.rat_core.proofs.Order.{abs_le, neg_le_abs}
 use Rattle.rat_core.proofs.Quotients.{over_mono}
 use Rattle.exp_sums.specs.FormalPoint.{FormalPoint}
 use Rattle.exp_sums.specs.Reach.{reach}
@@ -21,7 +21,7 @@ use Rattle.rational_polygon.specs.Square.{Square, child, dyadic, box_corner, hal
 use Rattle.rational_polygon.proofs.Centres.{from_start, from_end}
 use Rattle.rational_polygon.proofs.Halves.{child_within}
 use Rattle.defining_functions.specs.Functions.{defining_function}
-use Rattle.gradient_bounds.specs.Clear.{margin, central_value, IsShutFunctionOn, IsShut}
+use Rattle.gradient_bounds.specs.Clear.{margin, central_value, IsShutFunctionOn}
 use Rattle.gradient_bounds.specs.Laws.{ShutGoesDown, ShutGoesToChildren, ShutIsNotClear}
 use Rattle.gradient_bounds.proofs.Boxes.{clear_gives_corridor_lem, shut_gives_no_corridor_lem}
 

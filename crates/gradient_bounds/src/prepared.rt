@@ -10,7 +10,7 @@ ghost use Rattle.trig_meaning.specs.FromSomeOn.{FromSomeOn};
 ghost use Rattle.trig_meaning.specs.Value.{value_at};
 ghost use Rattle.unfolding.specs.Shift.{IsShift, HasShift};
 ghost use Rattle.rational_polygon.specs.Point.{Point};
-ghost use Rattle.rational_polygon.specs.Square.{IsInBox};
+ghost use Rattle.rational_polygon.specs.Square.{IsInBox, centre};
 ghost use Rattle.directed_fixed.specs.Ends.{Encloses};
 ghost use Rattle.defining_functions.specs.Functions.{defining_function};
 ghost use Rattle.defining_functions.specs.Heights.{upper_height, lower_height};
@@ -259,8 +259,7 @@ impl<S: Scale> Prepared<S> {
         ensures found { IsClear self.old.word place (slack S.HIGH_BITS) → IsTrue result }
         ensures corridor { IsTrue result → (p : Point) → IsInBox place p → HasCorridor self.old.word p.x p.y }
     {
-        let (x, y) = place.centre();
-        self.move_to(x, y);
+        self.move_to_centre(place);
         each_reaches::<S>(
             &self.functions,
             &self.uppers,
@@ -280,14 +279,18 @@ impl<S: Scale> Prepared<S> {
         ensures found { IsShut self.old.word place (slack S.HIGH_BITS) → IsTrue result }
         ensures no_corridor { IsTrue result → (p : Point) → IsInBox place p → ¬ (HasCorridor self.old.word p.x p.y) }
     {
+        self.move_to_centre(place);
+        some_falls_below::<S>(&self.functions, &self.uppers, &self.lowers, &square(place))
+    }
+
+    /// Fills the table at the centre of the box, unless it was filled there last.
+    fn move_to_centre(&mut self, place: GridBox)
+        ensures word { self.new.word ≡ self.old.word }
+        ensures point { self.new.point ≡ Some (centre_of place) }
+        ensures centre { record { x = value (centre_of place).0; y = value (centre_of place).1 } ≡ centre place }
+    {
         let (x, y) = place.centre();
         self.move_to(x, y);
-        some_falls_below::<S>(
-            &self.functions,
-            &self.uppers,
-            &self.lowers,
-            &square(place),
-        )
     }
 
     /// Fills the table at (x, y), unless it was filled there last.

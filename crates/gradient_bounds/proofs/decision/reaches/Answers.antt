@@ -1,4 +1,4 @@
-use Rattle.std.proofs.Common.{FitsSigned, pos, ◌-ℤ◌}
+use Rattle.std.proofs.Common.{FitsSigned}
 use Rattle.std.specs.Int.{w64, w128}
 use Rattle.std.proofs.lemmas.Int.{to_z-of_z}
 use Rattle.exp_sums.specs.Limits.{weight}

@@ -28,11 +28,11 @@ loop-j-preserved g c =
     let N = needed g.S.Scale.BITS g.S.Scale.LOW_BITS g.S.Scale.PI_HI c.args.neighbourhood.now in
     let gap : FitsSigned w128 c.difference-gap.result = record { sfits = c.difference-gap.type_inv } in
     let here : ¬ (FallsBelow N w k (c.loop-j.j + 1) c.difference-gap.result) = elim c.else-gap-lt0.branch [
-        else-gap-lt0-via-then-gap-lt0+else-falls_below w' ↦ false_not (FallsBelow N w k (c.loop-j.j + 1) c.difference-gap.result)
-            (simp to_z-of_z at w'.if-falls_below.ensures)
-        | else-gap-lt0-via-else-gap-lt0 w' ↦ no_fall g.S.Scale.BITS g.S.Scale.LOW_BITS g.S.Scale.PI_LO g.S.Scale.PI_HI c.args.neighbourhood.now w k
-            (c.loop-j.j + 1) c.difference-gap.result g.S.Scale.one_unit g.S.Scale.pi_between c.requires.neighbourhood c.letters-j-end.ensures.shift
-            (not_less c.difference-gap.result (pos 0) (simp to_z-of_z at w'.if-gap-lt0.false))
+      | else-gap-lt0-via-then-gap-lt0+else-falls_below w' ↦ false_not (FallsBelow N w k (c.loop-j.j + 1) c.difference-gap.result)
+          (simp to_z-of_z at w'.if-falls_below.ensures)
+      | else-gap-lt0-via-else-gap-lt0 w' ↦ no_fall g.S.Scale.BITS g.S.Scale.LOW_BITS g.S.Scale.PI_LO g.S.Scale.PI_HI c.args.neighbourhood.now w k
+          (c.loop-j.j + 1) c.difference-gap.result g.S.Scale.one_unit g.S.Scale.pi_between c.requires.neighbourhood c.letters-j-end.ensures.shift
+          (not_less c.difference-gap.result (pos 0) (simp to_z-of_z at w'.if-gap-lt0.false))
     ] in
     up_to (λ l. ¬ (FallsBelow N w k l (difference c.args.uppers.now c.args.lowers.now k l))) (c.loop-j.j + 1)
     (λ b low below. c.loop-j.invariant b low (omega (arith, below)))

@@ -36,6 +36,10 @@ returns-then-falls_below g c =
     (record {
       upper = k;
       is_upper = c.nearest-k.ensures.upper;
-      row = record { lower = l; is_lower = c.nearest-k.ensures.lower; falls = subst (FallsBelow N w k l) c.difference-least.ensures
-          (iff.0 c.if-falls_below.true) };
+      row = record {
+        lower = l;
+        is_lower = c.nearest-k.ensures.lower;
+        falls = subst (FallsBelow N w k l) c.difference-least.ensures
+            (iff.0 c.if-falls_below.true);
+      };
     }))

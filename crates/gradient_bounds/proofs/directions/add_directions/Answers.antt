@@ -1,4 +1,4 @@
-use Rattle.std.proofs.Common.{◌≡◌, ◌≢◌, ◌∙◌, sym, ap, pos, of_z, to_z, FitsSigned, arith}
+use Rattle.std.proofs.Common.{◌≡◌, ◌∙◌, sym, ap, pos, of_z, to_z, FitsSigned, arith}
 use Rattle.std.specs.Int.{w64}
 use Rattle.std.proofs.lemmas.Int.{to_z-of_z}
 use Rattle.exp_sums.specs.declared.terms.Term.{Term}
@@ -20,7 +20,7 @@ loop-term-preserved c =
     let i = c.loop-term.term-index in
     let fits : FitsSigned w64 c.coefficient.result = record { sfits = c.coefficient.type_inv } in
     elim c.if-coefficient-eq0.branch [
-      then-coefficient-eq0+in_ok-add_dir w ↦
+      | then-coefficient-eq0+in_ok-add_dir w ↦
           let none : c.coefficient.result ≡ pos 0 = sym (to_z-of_z w64 c.coefficient.result fits) ∙ ap (to_z w64) w.if-coefficient-eq0.true in
           taken_added ts i blank c.args.directions.now c.loop-term.directions c.if-coefficient-eq0.directions c.loop-term-test.true c.loop-term.invariant
           (c.requires.near i blank c.loop-term-test.true) (sym c.coefficient.ensures ∙ none) (w.directions-is ∙ w.in_ok-add_dir.ensures.ok)

@@ -1,4 +1,3 @@
-use Rattle.gradient_bounds.specs.Table.{IsTableOf}
 use Rattle.gradient_bounds.proofs.Marks.{table_of_pushed}
 use Rattle.gradient_bounds.proofs.directions.blank_table.Goals as goal
 

@@ -1,6 +1,5 @@
 use Rattle.std.proofs.Common.{ap, ◌∙◌, length, arith}
 use Rattle.exp_sums.specs.FormalPoint.{terms}
-use Rattle.exp_sums.specs.Limits.{weight}
 use Rattle.gradient_bounds.proofs.Marks.{no_marks, count_of_terms, next_heights}
 use Rattle.gradient_bounds.proofs.directions.directions_of.Goals as goal
 

@@ -5,5 +5,5 @@ use Rattle.gradient_bounds.proofs.extremes.greatest.Given as goal
 abbrev pub invariant-loop-i : goal.invariant-loop-i
 invariant-loop-i l = record {
   in_range : l.place < length l.numbers;
-  greatest : (j : ℕ) → j < l.i → slice_index_or l.numbers j (pos 0) ≤ℤ slice_index_or l.numbers l.place (pos 0)
+  greatest : (j : ℕ) → j < l.i → slice_index_or l.numbers j (pos 0) ≤ℤ slice_index_or l.numbers l.place (pos 0);
 }

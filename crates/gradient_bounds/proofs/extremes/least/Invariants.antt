@@ -5,5 +5,5 @@ use Rattle.gradient_bounds.proofs.extremes.least.Given as goal
 abbrev pub invariant-loop-i : goal.invariant-loop-i
 invariant-loop-i l = record {
   in_range : l.place < length l.numbers;
-  least : (j : ℕ) → j < l.i → slice_index_or l.numbers l.place (pos 0) ≤ℤ slice_index_or l.numbers j (pos 0)
+  least : (j : ℕ) → j < l.i → slice_index_or l.numbers l.place (pos 0) ≤ℤ slice_index_or l.numbers j (pos 0);
 }

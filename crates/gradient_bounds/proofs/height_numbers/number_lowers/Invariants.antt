@@ -1,4 +1,4 @@
-use Rattle.std.proofs.Common.{◌≡◌, ℕ, ℤ, ◌+◌, ◌<◌, length, get_or}
+use Rattle.std.proofs.Common.{ℕ, ℤ, ◌+◌, ◌<◌, get_or}
 use Rattle.defining_functions.specs.Heights.{lower_height}
 use Rattle.gradient_bounds.specs.Kept.{IsNumberOf}
 use Rattle.gradient_bounds.proofs.height_numbers.number_lowers.Given as goal

@@ -1,7 +1,6 @@
-use Rattle.std.proofs.Common.{take, to_z, ◌≡◌, subst, sym, pos}
+use Rattle.std.proofs.Common.{to_z, pos}
 use Rattle.std.specs.Int.{w128}
 use Rattle.std.proofs.lemmas.Int.{to_z-of_z}
-use Rattle.std.proofs.lemmas.List.{take_all}
 use Rattle.exp_sums.specs.declared.terms.Term.{Term}
 use Rattle.gradient_bounds.specs.Table.{low_in}
 use Rattle.gradient_bounds.proofs.Sums.{IsStep, step_at, number_size}

@@ -7,5 +7,5 @@ use Rattle.gradient_bounds.proofs.most.most_of.Given as goal
 abbrev pub invariant-loop-i : goal.invariant-loop-i
 invariant-loop-i l = record {
   limits : IsInLimits l.most;
-  rows : (a b : ℕ) → 1 ≤ a → a ≤ l.i → IsPlace l.functions b → IsWithinMost l.functions l.most a b
+  rows : (a b : ℕ) → 1 ≤ a → a ≤ l.i → IsPlace l.functions b → IsWithinMost l.functions l.most a b;
 }

@@ -8,5 +8,5 @@ abbrev pub invariant-loop-j : goal.invariant-loop-j
 invariant-loop-j l = record {
   limits : IsInLimits l.most;
   rows : (a b : ℕ) → 1 ≤ a → a < l.k → IsPlace l.functions b → IsWithinMost l.functions l.most a b;
-  row : (b : ℕ) → 1 ≤ b → b ≤ l.j → IsWithinMost l.functions l.most l.k b
+  row : (b : ℕ) → 1 ≤ b → b ≤ l.j → IsWithinMost l.functions l.most l.k b;
 }

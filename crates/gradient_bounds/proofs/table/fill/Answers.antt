@@ -1,6 +1,5 @@
-use Rattle.std.proofs.Common.{◌≡◌, ◌<◌, FitsSigned, length, map, arith}
+use Rattle.std.proofs.Common.{◌<◌, FitsSigned, length, map, arith}
 use Rattle.std.specs.Int.{w128}
-use Rattle.std.specs.List.{All}
 use Rattle.std.proofs.lemmas.Int.{to_z-of_z}
 use Rattle.std.proofs.lemmas.List.Elements.{All-get_or, All-from_all_within, AllWithin-upto}
 use Rattle.exp_sums.specs.Limits.{IsNear}

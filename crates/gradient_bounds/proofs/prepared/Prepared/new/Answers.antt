@@ -1,4 +1,4 @@
-use Rattle.std.proofs.Common.{◌≡◌, ◌∙◌, sym, ap, subst, length, drop, arith}
+use Rattle.std.proofs.Common.{◌≡◌, sym, ap, subst, length, drop, arith}
 use Rattle.std.specs.Prelude.{Err}
 use Rattle.std.proofs.lemmas.List.{take_at}
 use Rattle.std.proofs.lemmas.Result.{err_from_is_err_and}
@@ -49,9 +49,9 @@ invariant_of-result g c =
     let uppers = c.in_ok-uppers.uppers in
     let lowers = c.in_ok-lowers.lowers in
     let us_len : length c.number_uppers.new.numbers ≡ uppers.len =
-        omega (arith, c.number_uppers.ensures.count, c.in_ok-uppers.ensures, c.letters.ensures.count, uppers.ok.0) in
+    omega (arith, c.number_uppers.ensures.count, c.in_ok-uppers.ensures, c.letters.ensures.count, uppers.ok.0) in
     let ls_len : length c.number_lowers.new.numbers ≡ lowers.len =
-        omega (arith, c.number_lowers.ensures.count, c.in_ok-lowers.ensures, c.letters-2.ensures.count, lowers.ok.0) in
+    omega (arith, c.number_lowers.ensures.count, c.in_ok-lowers.ensures, c.letters-2.ensures.count, lowers.ok.0) in
     prepared_from g.S.Scale.BITS w c.copied.result c.in_ok-unfolding.unfolding f c.most_of.result c.in_ok-table.table.items _ _ c.number_uppers.new.numbers
     c.number_lowers.new.numbers c.copied.ensures c.in_ok-unfolding.ensures.word c.in_ok-functions.ensures.word
     (subst IsWord c.unfolding.view_is c.unfolding.invariant.word) stable c.most_of.ensures c.in_ok-table.ensures.directions c.in_ok-table.ensures.small

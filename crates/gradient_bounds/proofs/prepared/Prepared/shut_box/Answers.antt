@@ -1,37 +1,19 @@
-use Rattle.std.proofs.Common.{sym, ap, subst, subst₂, ◌∙◌}
+use Rattle.std.proofs.Common.{sym, ap, subst₂, ◌∙◌}
 use Rattle.rational_polygon.specs.Point.{Point}
 use Rattle.gradient_bounds.specs.Corridor.{SomeFunction}
 use Rattle.gradient_bounds.specs.Clear.{slack}
 use Rattle.gradient_bounds.specs.Neighbourhood.{Ball, IsShutIn}
-use Rattle.gradient_bounds.specs.Table.{box_drift}
+use Rattle.gradient_bounds.specs.Table.{centre_of, box_drift}
 use Rattle.gradient_bounds.proofs.Boxes.{some_of_shut, shut_of_some, shut_gives_no_corridor_lem}
 use Rattle.gradient_bounds.proofs.Margins.{slack_positive}
 use Rattle.gradient_bounds.proofs.Tested.{box_drift_is}
-use Rattle.gradient_bounds.proofs.Tests.{IsSomeTest, numbers_up, numbers_low, some_test, centre_in_unit}
+use Rattle.gradient_bounds.proofs.Tests.{IsSomeTest, numbers_up, numbers_low, some_test}
 use Rattle.gradient_bounds.proofs.Numbers.{IsScale}
 use Rattle.gradient_bounds.proofs.prepared.Prepared.shut_box.Given as given
 use Rattle.gradient_bounds.proofs.prepared.Prepared.shut_box.Goals as goal
 
 scale : (g : given.Over) → IsScale g.S.Scale.BITS g.S.Scale.LOW_BITS g.S.Scale.HIGH_BITS g.S.Scale.PI_LO g.S.Scale.PI_HI
 scale g = record { one_unit = g.S.Scale.one_unit; pi = g.S.Scale.pi_between; apart = g.S.Scale.slacks.0; room = g.S.Scale.slacks.1 }
-
-pub move_to-requires-clause-x_least : goal.move_to-requires-clause-x_least
-move_to-requires-clause-x_least g c = (centre_in_unit c.args.place c.centre-x.result.0 c.centre-x.result.1 c.centre-x.ensures.is_box c.centre-x.ensures.x c.centre-x.ensures.y).0.least
-
-pub move_to-requires-clause-x_most : goal.move_to-requires-clause-x_most
-move_to-requires-clause-x_most g c = (centre_in_unit c.args.place c.centre-x.result.0 c.centre-x.result.1 c.centre-x.ensures.is_box c.centre-x.ensures.x c.centre-x.ensures.y).0.most
-
-pub move_to-requires-clause-y_least : goal.move_to-requires-clause-y_least
-move_to-requires-clause-y_least g c = (centre_in_unit c.args.place c.centre-x.result.0 c.centre-x.result.1 c.centre-x.ensures.is_box c.centre-x.ensures.x c.centre-x.ensures.y).1.least
-
-pub move_to-requires-clause-y_most : goal.move_to-requires-clause-y_most
-move_to-requires-clause-y_most g c = (centre_in_unit c.args.place c.centre-x.result.0 c.centre-x.result.1 c.centre-x.ensures.is_box c.centre-x.ensures.x c.centre-x.ensures.y).1.most
-
-pub move_to-requires-clause-x_denominator : goal.move_to-requires-clause-x_denominator
-move_to-requires-clause-x_denominator g c = (centre_in_unit c.args.place c.centre-x.result.0 c.centre-x.result.1 c.centre-x.ensures.is_box c.centre-x.ensures.x c.centre-x.ensures.y).0.small
-
-pub move_to-requires-clause-y_denominator : goal.move_to-requires-clause-y_denominator
-move_to-requires-clause-y_denominator g c = (centre_in_unit c.args.place c.centre-x.result.0 c.centre-x.result.1 c.centre-x.ensures.is_box c.centre-x.ensures.x c.centre-x.ensures.y).1.small
 
 pub some_falls_below-requires-clause-uppers : goal.some_falls_below-requires-clause-uppers
 some_falls_below-requires-clause-uppers g c =
@@ -47,15 +29,15 @@ some_falls_below-requires-clause-lowers g c =
 
 is : (g : given.Over) (c : goal.After-some_falls_below g)
     → IsSomeTest g.S.Scale.BITS g.S.Scale.LOW_BITS g.S.Scale.HIGH_BITS g.S.Scale.PI_HI c.self.inside.functions c.deref.result.now c.deref-2.result.now c.square.result
-    (box_drift g.S.Scale.PI_HI c.args.place) c.move_to.new.self
+    (box_drift g.S.Scale.PI_HI c.args.place) c.move_to_centre.new.self
 is g c =
     let i = c.self.inside in
     let r = c.square.result in
     let near = c.square.ensures.neighbourhood in
     some_test g.S.Scale.BITS g.S.Scale.LOW_BITS g.S.Scale.HIGH_BITS g.S.Scale.PI_LO g.S.Scale.PI_HI (scale g) i.word i.functions i.most i.point i.table.items
-    i.uppers.items i.lowers.items c.deref.result.now c.deref-2.result.now c.self.invariant c.deref.ensures.value c.deref-2.ensures.value c.move_to.new.self
-    c.self.view_is c.centre-x.result.0 c.centre-x.result.1 c.move_to.ensures.point r near (ap (λ (b : Ball). b.x) c.square.ensures.ball ∙ sym (ap (λ (q : Point). q.x) c.centre-x.ensures.is_centre))
-    (ap (λ (b : Ball). b.y) c.square.ensures.ball ∙ sym (ap (λ (q : Point). q.y) c.centre-x.ensures.is_centre))
+    i.uppers.items i.lowers.items c.deref.result.now c.deref-2.result.now c.self.invariant c.deref.ensures.value c.deref-2.ensures.value c.move_to_centre.new.self
+    c.self.view_is (centre_of c.args.place).0 (centre_of c.args.place).1 c.move_to_centre.ensures.point r near (ap (λ (b : Ball). b.x) c.square.ensures.ball ∙ sym (ap (λ (q : Point). q.x) c.move_to_centre.ensures.centre))
+    (ap (λ (b : Ball). b.y) c.square.ensures.ball ∙ sym (ap (λ (q : Point). q.y) c.move_to_centre.ensures.centre))
     (box_drift g.S.Scale.PI_HI c.args.place) (box_drift_is g.S.Scale.PI_HI c.args.place r c.square.ensures.radius c.square.ensures.denominator)
 
 pub returns-clause-decided : goal.returns-clause-decided
@@ -64,13 +46,13 @@ returns-clause-decided g c = (λ t. (is g c).decided.0 (c.some_falls_below.ensur
 pub returns-clause-shut : goal.returns-clause-shut
 returns-clause-shut g c =
     λ passed. shut_of_some c.args.self.now.word c.args.place (slack g.S.Scale.LOW_BITS)
-    (subst₂ (λ w b. SomeFunction w (IsShutIn b (slack g.S.Scale.LOW_BITS))) c.move_to.ensures.word c.square.ensures.ball
+    (subst₂ (λ w b. SomeFunction w (IsShutIn b (slack g.S.Scale.LOW_BITS))) c.move_to_centre.ensures.word c.square.ensures.ball
     ((is g c).shut (c.some_falls_below.ensures.0 passed)))
 
 pub returns-clause-found : goal.returns-clause-found
 returns-clause-found g c =
     λ shut. c.some_falls_below.ensures.1
-    ((is g c).found (subst₂ (λ w b. SomeFunction w (IsShutIn b (slack g.S.Scale.HIGH_BITS))) (sym c.move_to.ensures.word) (sym c.square.ensures.ball)
+    ((is g c).found (subst₂ (λ w b. SomeFunction w (IsShutIn b (slack g.S.Scale.HIGH_BITS))) (sym c.move_to_centre.ensures.word) (sym c.square.ensures.ball)
     (some_of_shut c.args.self.now.word c.args.place (slack g.S.Scale.HIGH_BITS) shut)))
 
 pub returns-clause-no_corridor : goal.returns-clause-no_corridor

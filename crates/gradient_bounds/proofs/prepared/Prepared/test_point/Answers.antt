@@ -1,4 +1,4 @@
-use Rattle.std.proofs.Common.{sym, ap, subst, subst₂, ◌∙◌}
+use Rattle.std.proofs.Common.{sym, ap, subst₂}
 use Rattle.rat_core.specs.Written.{value}
 use Rattle.gradient_bounds.specs.Corridor.{EachFunction}
 use Rattle.gradient_bounds.specs.Clear.{slack}
