@@ -1,5 +1,6 @@
 -- What a function needs, as the machine computes it: drift and margin fit their type, and are as they are defined.
-use Rattle.std.proofs.Common.{◌≡◌, sym, ap, subst, subst₂, ℕ, ◌+◌, ◌-◌, ◌*◌, ◌^◌, ◌<◌, ◌≤◌, ℤ, pos, negsuc, ◌+ℤ◌, ◌-ℤ◌, ◌*ℤ◌, neg_ℤ, ◌≤ℤ◌, unsigned_abs, FitsSigned, true, arith}
+use Rattle.std.proofs.Common.{◌≡◌, sym, ap, subst, subst₂, ℕ, ◌+◌, ◌-◌, ◌*◌, ◌^◌, ◌<◌, ◌≤◌, ℤ, pos, negsuc, ◌+ℤ◌, ◌-ℤ◌, ◌*ℤ◌, neg_ℤ, ◌≤ℤ◌}
+use Rattle.std.proofs.Common.{unsigned_abs, FitsSigned, true, arith}
 use Rattle.std.proofs.Common.{mul-le-mul}
 use Rattle.std.proofs.Math.Pow.{pow_mono}
 use Rattle.std.proofs.lemmas.Int.{ints}
@@ -103,7 +104,13 @@ pub record IsSum (D M : ℤ) : Type 0 where
 sum_of : (D M : ℤ) → pos 0 ≤ℤ D → unsigned_abs D ≤ 2 ^ 90 → pos 1 ≤ℤ M → unsigned_abs M ≤ 2 ^ 90 → IsSum D M
 sum_of D M low small one light =
     let size : unsigned_abs (D +ℤ M) ≤ 2 ^ 100 = omega (arith, ints) in
-    record { drift = fits_128 D (omega arith); margin = fits_128 M (omega arith); sum = fits_128 (D +ℤ M) (omega arith); at_least = omega (arith, ints); size = size }
+    record {
+      drift = fits_128 D (omega arith);
+      margin = fits_128 M (omega arith);
+      sum = fits_128 (D +ℤ M) (omega arith);
+      at_least = omega (arith, ints);
+      size = size;
+    }
 
 product_at_least : (H p : ℤ) (r : ℕ) → pos 0 ≤ℤ H → pos 0 ≤ℤ p → pos 0 ≤ℤ (H *ℤ (pos r *ℤ p))
 product_at_least (pos h) (pos q) r low low' = omega (arith, ints)
@@ -118,20 +125,23 @@ drift_at_least H r reach low near = at r.centre.den near.angles.positive
     no_multiple d n h = omega (arith, ints)
 
     at : (den : ℤ) → pos 1 ≤ℤ den → pos 0 ≤ℤ rounded_up (H *ℤ (pos reach *ℤ r.radius)) den
-    at (pos d) positive = rounded_at_least true (pos 0) (rounded_up (H *ℤ (pos reach *ℤ r.radius)) (pos d)) (H *ℤ (pos reach *ℤ r.radius)) d (omega (arith, ints))
+    at (pos d) positive = rounded_at_least true (pos 0) (rounded_up (H *ℤ (pos reach *ℤ r.radius)) (pos d)) (H *ℤ (pos reach *ℤ r.radius)) d (omega
+        (arith, ints))
         (rounded_up_is_ceiling (H *ℤ (pos reach *ℤ r.radius)) (pos d) positive)
         (no_multiple d (H *ℤ (pos reach *ℤ r.radius)) (product_at_least H r.radius reach low near.at_least))
     at (negsuc d) positive = absurd positive.le
 
 -- a drift is at most 2^90
-drift_size : (H : ℤ) (r : Neighbourhood) (reach : ℕ) → IsNeighbourhood r → unsigned_abs H ≤ 2 ^ 62 → reach ≤ 4259840 → unsigned_abs (drift_units H r reach) ≤ 2 ^ 90
+drift_size : (H : ℤ) (r : Neighbourhood) (reach : ℕ) → IsNeighbourhood r → unsigned_abs H ≤ 2 ^ 62 → reach ≤ 4259840
+    → unsigned_abs (drift_units H r reach) ≤ 2 ^ 90
 drift_size H r reach near small slow =
     rounded_not_larger true (drift_units H r reach) (H *ℤ (pos reach *ℤ r.radius)) r.centre.den (2 ^ 90) near.angles.positive
     (rounded_up_is_ceiling (H *ℤ (pos reach *ℤ r.radius)) r.centre.den near.angles.positive)
     (dividend_of H (pos reach) r.radius small (omega (arith, ints)) (omega (arith, ints)) near.at_least near.at_most).size
 
 -- a margin is from 1 to 2^90
-margin_between : (bits low weight : ℕ) → bits ≤ 60 → weight ≤ 16384 → (pos 1 ≤ℤ margin_units bits low weight) × (unsigned_abs (margin_units bits low weight) ≤ 2 ^ 90)
+margin_between : (bits low weight : ℕ) → bits ≤ 60 → weight ≤ 16384 → (pos 1 ≤ℤ margin_units bits low weight) × (unsigned_abs
+    (margin_units bits low weight) ≤ 2 ^ 90)
 margin_between bits low weight room light =
     let below : bits - low ≤ 60 = omega arith in
     let units : 2 ^ (bits - low) ≤ 2 ^ 60 = pow_mono below in
@@ -162,7 +172,8 @@ sum_fits bits low L H D M r weight reach room pi unit near light slow D_is M_is 
     let size = (pi_size bits L H room pi unit).1 in
     let least : pos 0 ≤ℤ H = pi_at_least bits L H unit pi in
     let margin = margin_between bits low weight room light in
-    subst₂ IsSum (sym D_is) (sym M_is) (sum_of (drift_units H r reach) (margin_units bits low weight) (drift_at_least H r reach least near) (drift_size H r reach near size slow) margin.0 margin.1)
+    subst₂ IsSum (sym D_is) (sym M_is) (sum_of (drift_units H r reach) (margin_units bits low weight) (drift_at_least H r reach least near)
+    (drift_size H r reach near size slow) margin.0 margin.1)
 
 -- ---- what is needed
 
@@ -182,7 +193,8 @@ needed_fits W T low light small =
       weight = fits_128 W (omega arith);
       threshold = fits_128 T (omega arith);
       errors = subst (FitsSigned w128) (sym errors) (fits_128 (pos (256 * unsigned_abs W)) (omega arith));
-      sum = subst (λ z. FitsSigned w128 (z +ℤ T)) (sym errors) (fits_128 (pos (256 * unsigned_abs W) +ℤ T) (added (256 * unsigned_abs W) T (omega arith) small));
+      sum = subst (λ z. FitsSigned w128 (z +ℤ T)) (sym errors) (fits_128 (pos (256 * unsigned_abs W) +ℤ T) (added (256 * unsigned_abs W) T
+          (omega arith) small));
       is = ap (λ z. z +ℤ T) errors;
     }
   where

@@ -19,7 +19,8 @@ use Rattle.defining_functions.specs.Functions.{defining_function}
 use Rattle.gradient_bounds.specs.declared.most.Most.{Most}
 use Rattle.gradient_bounds.specs.declared.neighbourhood.Neighbourhood.{Neighbourhood}
 use Rattle.gradient_bounds.specs.Neighbourhood.{IsNeighbourhood}
-use Rattle.gradient_bounds.specs.Decision.{rounded_up, drift_units, needed_units, needed, difference, Reaches, FallsBelow, EachReaches, SomeFallsBelow, IsInLimits, IsWithinMost, IsMost}
+use Rattle.gradient_bounds.specs.Decision.{rounded_up, drift_units, needed_units, needed, difference, Reaches, FallsBelow, EachReaches}
+use Rattle.gradient_bounds.specs.Decision.{SomeFallsBelow, IsInLimits, IsWithinMost, IsMost}
 use Rattle.gradient_bounds.proofs.Computed.{rounded_up_is_ceiling, drift_at_least, pi_at_least}
 
 -- ---- one pair
@@ -95,7 +96,8 @@ rounded_up_mono m n (negsuc d) positive h = absurd positive.le
 needed_mono : (bits low : ℕ) (H : ℤ) (r : Neighbourhood) (a b c d : ℕ) → pos 0 ≤ℤ H → IsNeighbourhood r → a ≤ b → c ≤ d
     → needed_units bits low H r a c ≤ℤ needed_units bits low H r b d
 needed_mono bits low H r a b c d positive near lighter slower =
-    let drift : drift_units H r c ≤ℤ drift_units H r d = rounded_up_mono (H *ℤ (pos c *ℤ r.radius)) (H *ℤ (pos d *ℤ r.radius)) r.centre.den near.angles.positive
+    let drift : drift_units H r c ≤ℤ drift_units H r d = rounded_up_mono (H *ℤ (pos c *ℤ r.radius)) (H *ℤ
+    (pos d *ℤ r.radius)) r.centre.den near.angles.positive
     (product_mono H r.radius c d positive near.at_least slower) in
     let factor : 1 + a ≤ 1 + b = omega arith in
     let margin : 2 ^ (bits - low) * (1 + a) ≤ 2 ^ (bits - low) * (1 + b) = mul-le-mul_left (2 ^ (bits - low)) factor in
@@ -105,7 +107,8 @@ needed_mono bits low H r a b c d positive near lighter slower =
     add_up x y m n h k = omega (arith, ints, lighter)
 
 -- what the largest function would need is at least what each needs
-most_needs : (bits low : ℕ) (H : ℤ) (r : Neighbourhood) (w : List ℕ) (most : Most) (v : FormalPoint) (k l : ℕ) → pos 0 ≤ℤ H → IsNeighbourhood r → IsInLimits most
+most_needs : (bits low : ℕ) (H : ℤ) (r : Neighbourhood) (w : List ℕ) (most : Most) (v : FormalPoint) (k l : ℕ) → pos 0 ≤ℤ H → IsNeighbourhood r
+    → IsInLimits most
     → IsWithinMost w most k l → IsShift w v
     → needed bits low H r (defining_function v w k l) ≤ℤ needed_units bits low H r (unsigned_abs most.weight) (unsigned_abs most.reach)
 most_needs bits low H r w most v k l positive near limits within shift =
@@ -160,7 +163,8 @@ pub none_falls : (bits low : ℕ) (L H : ℤ) (r : Neighbourhood) (w : List ℕ)
     → ¬ (SomeFallsBelow (needed bits low H r) w uppers lowers)
 none_falls bits low L H r w uppers lowers least unit pi near shift below above some =
     no_fall bits low L H r w some.upper some.row.lower (difference uppers lowers some.upper some.row.lower) unit pi near shift
-    (through least (difference uppers lowers some.upper some.row.lower) above (below some.upper some.row.lower some.is_upper some.row.is_lower)) some.row.falls
+    (through least (difference uppers lowers some.upper some.row.lower) above
+    (below some.upper some.row.lower some.is_upper some.row.is_lower)) some.row.falls
   where
     through : (b c : ℤ) → pos 0 ≤ℤ b → b ≤ℤ c → pos 0 ≤ℤ c
     through b c h k = omega (arith, ints)
@@ -190,7 +194,8 @@ differences_in_order uppers lowers k l i j h h' =
     let back : k + 1 - 1 ≡ k = omega arith in
     let back' : l + 1 - 1 ≡ l = omega arith in
     subst₂ (λ a b. (slice_index_or uppers a (pos 0) -ℤ slice_index_or lowers b (pos 0)) ≤ℤ difference uppers lowers i j) (sym back) (sym back')
-    (in_order (slice_index_or uppers k (pos 0)) (slice_index_or uppers (i - 1) (pos 0)) (slice_index_or lowers (j - 1) (pos 0)) (slice_index_or lowers l (pos 0)) h h')
+    (in_order (slice_index_or uppers k (pos 0)) (slice_index_or uppers (i - 1) (pos 0)) (slice_index_or lowers (j - 1) (pos 0))
+    (slice_index_or lowers l (pos 0)) h h')
   where
     in_order : (a b c d : ℤ) → a ≤ℤ b → c ≤ℤ d → (a -ℤ d) ≤ℤ (b -ℤ c)
     in_order a b c d h k = omega (arith, ints)

@@ -55,7 +55,8 @@ rounded_below h r p D d positive ceiling =
     let exact = (h ÷ 1) *ℚ (whole r *ℚ (p ÷ d)) in
     let product = h *ℤ (pos r *ℤ p) in
     let near : (D *ℤ pos d) ÷ 1 ≤ℚ (product +ℤ pos d) ÷ 1 = int_le (D *ℤ pos d) (product +ℤ pos d) (weaker (D *ℤ pos d) (product +ℤ pos d) ceiling.near) in
-    let parts : (product +ℤ pos d) ÷ 1 ≡ exact *ℚ whole d +ℚ whole d = int-add product (pos d) ∙ ap (λ t. t +ℚ whole d) (sym (product_over h r p d positive)) in
+    let parts : (product +ℤ pos d) ÷ 1 ≡ exact *ℚ whole d +ℚ whole d = int-add product (pos d)
+    ∙ ap (λ t. t +ℚ whole d) (sym (product_over h r p d positive)) in
     let scaled : (D ÷ 1) *ℚ whole d ≤ℚ exact *ℚ whole d +ℚ whole d = subst₂ ◌≤ℚ◌ (int-mul D (pos d)) parts near in
     cancel_le d positive (D ÷ 1) (exact +ℚ whole 1) (le₃ ℚ_ordered (λ D e d. D ⊠ d) (λ D e d. (e ⊞ num 1) ⊠ d) (λ D e d. le (D ⊠ d) (e ⊠ d ⊞ d) ∷
     []) refl (D ÷ 1) exact (whole d) (scaled, tt))
@@ -102,7 +103,8 @@ drift_near bits L H D r w p d s h pi =
     let t = whole r *ℚ (p ÷ d) in
     let spread = spread_between L H D r w p d h in
     let upper : H ÷ 1 ≡ L ÷ 1 +ℚ whole 1 = ap (λ z. z ÷ 1) h.one_unit ∙ int-add L (pos 1) in
-    let rounded : D ÷ 1 ≤ℚ (L ÷ 1 +ℚ whole 1) *ℚ t +ℚ whole 1 = subst (λ z. D ÷ 1 ≤ℚ z *ℚ t +ℚ whole 1) upper (rounded_below H r p D d h.positive h.ceiling) in
+    let rounded : D ÷ 1 ≤ℚ (L ÷ 1 +ℚ whole 1) *ℚ t +ℚ whole 1 = subst (λ z. D ÷ 1 ≤ℚ z *ℚ t +ℚ whole 1) upper
+    (rounded_below H r p D d h.positive h.ceiling) in
     let room : whole (260 * w) +ℚ whole 1 ≤ℚ whole (260 * w + 1) = at_most_of_same ℚ_ordered (sym (int-add (pos (260 * w)) (pos 1))) in
     le_trans (D ÷ 1) ((s *ℚ t) *ℚ whole (2 ^ bits) +ℚ (whole (260 * w) +ℚ whole 1)) ((s *ℚ t) *ℚ whole (2 ^ bits) +ℚ whole (260 * w + 1))
     (le₆ ℚ_ordered (λ s t u L D m. D) (λ s t u L D m. (s ⊠ t) ⊠ u ⊞ (m ⊞ num 1))

@@ -1,5 +1,6 @@
 -- The sum of the directions of a word's heights, and the table that is made of it.
-use Rattle.std.proofs.Common.{◌≡◌, ◌≢◌, refl, sym, ap, ap₂, ◌∙◌, subst, ℕ, zero, suc, ◌+◌, add-one, ◌<◌, ◌≤◌, List, [], ◌∷◌, ◌++◌, map, take, length, get_or, arith}
+use Rattle.std.proofs.Common.{◌≡◌, ◌≢◌, refl, sym, ap, ap₂, ◌∙◌, subst, ℕ, zero, suc, ◌+◌, add-one, ◌<◌, ◌≤◌, List, [], ◌∷◌, ◌++◌, map, take, length}
+use Rattle.std.proofs.Common.{get_or, arith}
 use Rattle.std.proofs.Common.{Bool, true, false, ◌||◌, if◌then◌else◌, ℤ, pos, ◌+ℤ◌, unsigned_abs, ◌⊎◌, inl, inr, T, append_assoc}
 use Rattle.std.specs.List.{All, Any, AllPairs}
 use Rattle.std.specs.Ordering.{is_lt}
@@ -47,7 +48,8 @@ has_dir_some : (ts : List Term) (d : Dir) → has_dir ts d ≡ true → Any (λ 
 has_dir_some [] d h = let no : false ≡ true = h in absurd cc
 has_dir_some (t ∷ ts) d h = by_test (is_same_dir t.dir d) refl h (has_dir_some ts d)
   where
-    by_test : (b : Bool) → is_same_dir t.dir d ≡ b → b || has_dir ts d ≡ true → (has_dir ts d ≡ true → Any (λ t. t.dir ≡ d) ts) → Any (λ u. u.dir ≡ d) (t ∷ ts)
+    by_test : (b : Bool) → is_same_dir t.dir d ≡ b → b || has_dir ts d ≡ true → (has_dir ts d ≡ true → Any (λ t. t.dir ≡ d) ts)
+        → Any (λ u. u.dir ≡ d) (t ∷ ts)
     by_test true is k later = (0, t, omega arith, refl, (is_same_dir-Decides t.dir d).0 is)
     by_test false is k later = let any = later k in (suc any.0, any.1, omega (arith, any.2), any.3, any.4)
 
@@ -70,14 +72,16 @@ mark_step : (ts : List Term) (p q : FormalPoint) (t : Term) → IsMarkOf ts p
 mark_step ts p q t mark here elsewhere d =
     by_test (is_same_dir t.dir d) refl (has_dir ts d) (mark d) ∙ ap (λ b. if b then pos 1 else pos 0) (sym (has_dir-append ts (t ∷ []) d))
   where
-    by_test : (b : Bool) → is_same_dir t.dir d ≡ b → (a : Bool) → coefficient p d ≡ (if a then pos 1 else pos 0) → coefficient q d ≡ (if a || (b || false) then pos 1 else pos 0)
+    by_test : (b : Bool) → is_same_dir t.dir d ≡ b → (a : Bool) → coefficient p d ≡ (if a then pos 1 else pos 0)
+        → coefficient q d ≡ (if a || (b || false) then pos 1 else pos 0)
     by_test true is true h = here d (sym ((is_same_dir-Decides t.dir d).0 is))
     by_test true is false h = here d (sym ((is_same_dir-Decides t.dir d).0 is))
     by_test false is true h = elsewhere d (λ e. let yes = (is_same_dir-Decides t.dir d).1 (sym e) in let no : true ≡ false = sym yes ∙ is in cc) ∙ h
     by_test false is false h = elsewhere d (λ e. let yes = (is_same_dir-Decides t.dir d).1 (sym e) in let no : true ≡ false = sym yes ∙ is in cc) ∙ h
 
 -- a direction that was not there is added
-pub mark_added : (ts : List Term) (p : FormalPoint) (t : Term) → IsMarkOf ts p → coefficient p t.dir ≡ pos 0 → IsMarkOf (ts ++ t ∷ []) (p +ₚ monomial (pos 1) t.dir)
+pub mark_added : (ts : List Term) (p : FormalPoint) (t : Term) → IsMarkOf ts p → coefficient p t.dir ≡ pos 0
+    → IsMarkOf (ts ++ t ∷ []) (p +ₚ monomial (pos 1) t.dir)
 mark_added ts p t mark none =
     mark_step ts p (p +ₚ monomial (pos 1) t.dir) t mark
     (λ d is. subst (λ e. coefficient (p +ₚ monomial (pos 1) t.dir) e ≡ pos 1) (sym is)
@@ -109,14 +113,16 @@ module _ (ts : List Term) (i : ℕ) (e : Term) (start p q : FormalPoint) (below 
   next_terms : (known : List Term) → known ++ take (i + 1) ts ≡ (known ++ take i ts) ++ get_or ts i e ∷ []
   next_terms known = ap (λ us. known ++ us) (take_more ts i e below) ∙ sym (append_assoc known (take i ts) (get_or ts i e ∷ []))
 
-  pub taken_added : IsNear 130 (get_or ts i e).dir → coefficient p (get_or ts i e).dir ≡ pos 0 → q ≡ p +ₚ monomial (pos 1) (get_or ts i e).dir → Taken ts (i + 1) start q
+  pub taken_added : IsNear 130 (get_or ts i e).dir → coefficient p (get_or ts i e).dir ≡ pos 0 → q ≡ p +ₚ monomial (pos 1) (get_or ts i e).dir
+      → Taken ts (i + 1) start q
   taken_added near none is =
       let t = get_or ts i e in
       let one = weight-monomial (pos 1) t.dir in
       let sum = weight-+ₚ p (monomial (pos 1) t.dir) in
       let light = h.2 in
       subst (Taken ts (i + 1) start) (sym is) (
-        (λ known mark. subst (λ us. IsMarkOf us (p +ₚ monomial (pos 1) t.dir)) (sym (next_terms known)) (mark_added (known ++ take i ts) p t (h.0 known mark) none)),
+        (λ known mark. subst (λ us. IsMarkOf us (p +ₚ monomial (pos 1) t.dir)) (sym (next_terms known)) (mark_added (known ++ take i ts) p t
+            (h.0 known mark) none)),
         IsWithin-+ₚ 130 p (monomial (pos 1) t.dir) h.1 (IsWithin-monomial 130 (pos 1) t.dir near),
         omega (arith, one, sum, light),
       )
@@ -175,7 +181,8 @@ heights_have v w (suc i) d h =
     (heights_have v w i d)
   where
     by_tests : (a : Bool) → has_dir (height_terms v w i) d ≡ a → (b : Bool) → has_dir (terms (upper_height v w (suc i))) d ≡ b → (c : Bool)
-        → has_dir (terms (lower_height v w (suc i))) d ≡ c → has_dir (height_terms v w i) d || (has_dir (terms (upper_height v w (suc i))) d || has_dir (terms (lower_height v w (suc i))) d) ≡ true
+        → has_dir (terms (lower_height v w (suc i))) d ≡ c → has_dir (height_terms v w i) d || (has_dir (terms (upper_height v w
+        (suc i))) d || has_dir (terms (lower_height v w (suc i))) d) ≡ true
         → (has_dir (height_terms v w i) d ≡ true → (k : ℕ) × (1 ≤ k) × (k ≤ i) × (HasDir (upper_height v w k) d ⊎ HasDir (lower_height v w k) d))
         → (k : ℕ) × (1 ≤ k) × (k ≤ suc i) × (HasDir (upper_height v w k) d ⊎ HasDir (lower_height v w k) d)
     by_tests true p b q c r all before = let some = before p in (some.0, some.1, omega (arith, some.2), some.3)
@@ -247,7 +254,10 @@ all_not_zero (t ∷ ts) h =
 coefficients_stand : (p : FormalPoint) → All (λ (t : Term). coefficient p t.dir ≢ pos 0) (terms p)
 coefficients_stand p i t below none =
     let ts = terms p in
-    let here = total_at_place ts (get_or ts i t).dir i t (terms_canonical p) (record { in_range = below; is_there = λ x. ap (λ (u : Term). u.dir) (get_or_default ts i x t below) }) in
+    let here = total_at_place ts (get_or ts i t).dir i t (terms_canonical p) (record {
+      in_range = below;
+      is_there = λ x. ap (λ (u : Term). u.dir) (get_or_default ts i x t below);
+    }) in
     all_not_zero ts (terms_canonical p) i t below (sym here ∙ none)
 
 -- a coefficient that is not 0 stands in a term
@@ -264,7 +274,14 @@ total_stands (t ∷ ts) d h = by_test (is_same_dir d t.dir) refl h (total_stands
 any_blank : (d : Dir) (ts : List Term) → Any (λ t. t.dir ≡ d) ts → Any (λ (e : SineLow). e.dir ≡ d) (map blank_for ts)
 any_blank d [] any = let below = any.2 in absurd (omega (arith, below))
 any_blank d (t ∷ ts) (zero, x, below, is, h) = (0, blank_for t, omega arith, refl, subst (λ (u : Term). u.dir ≡ d) (sym is) h)
-any_blank d (t ∷ ts) (suc k, x, below, is, h) = let any = any_blank d ts (k, x, omega (arith, below), is, h) in (suc any.0, any.1, omega (arith, any.2), any.3, any.4)
+any_blank d (t ∷ ts) (suc k, x, below, is, h) = let any = any_blank d ts (k, x, omega (arith, below), is, h) in (
+  suc any.0,
+  any.1,
+  omega
+      (arith, any.2),
+  any.3,
+  any.4,
+)
 
 -- the table of a word's directions
 pub table_of_marks : (w : List ℕ) (p : FormalPoint) → HasShift w → ((v : FormalPoint) → IsShift w v → IsMarkOf (height_terms v w (length w)) p)
@@ -273,7 +290,8 @@ table_of_marks w p shift marks = record {
   rising = blanks_rise (terms p) (terms_canonical p);
   only = All-map (λ (e : SineLow). IsDirOfHeight w e.dir) blank_for (terms p) (λ i t below. one (get_or (terms p) i t).dir (coefficients_stand p i t below));
   all = λ d h. any_blank d (terms p) (total_stands (terms p) d (λ none.
-      let one = marks h.shift h.is_shift d ∙ ap (λ b. if b then pos 1 else pos 0) (have_heights h.shift w (length w) h.corner d h.is_corner.0 h.is_corner.1 h.has) in
+      let one = marks h.shift h.is_shift d ∙ ap (λ b. if b then pos 1 else pos 0) (have_heights h.shift w
+      (length w) h.corner d h.is_corner.0 h.is_corner.1 h.has) in
       let no : pos 1 ≡ pos 0 = sym one ∙ none in
       let bad : ⊥ = omega (arith, ints, no) in bad));
 }
@@ -298,13 +316,15 @@ next_heights v w i p q r uppers lowers uppers_are lowers_are mark first second =
     let place : i + 1 ≡ suc i = add-one i in
     let all : (height_terms v w i ++ uppers) ++ lowers ≡ height_terms v w (i + 1) =
     append_assoc (height_terms v w i) uppers lowers
-    ∙ ap₂ (λ us ls. height_terms v w i ++ (us ++ ls)) (uppers_are ∙ ap (λ j. terms (upper_height v w j)) place) (lowers_are ∙ ap (λ j. terms (lower_height v w j)) place)
+    ∙ ap₂ (λ us ls. height_terms v w i ++ (us ++ ls)) (uppers_are ∙ ap (λ j. terms (upper_height v w j)) place) (lowers_are
+    ∙ ap (λ j. terms (lower_height v w j)) place)
     ∙ ap (height_terms v w) (sym place) in
     subst (λ ts. IsMarkOf ts r) all (second (height_terms v w i ++ uppers) (first (height_terms v w i) mark))
 
 -- the table as it is pushed
 pub table_of_pushed : (w : List ℕ) (p : FormalPoint) (ts : List Term) (i : ℕ) (table : List SineLow) → HasShift w
-    → ((v : FormalPoint) → IsShift w v → IsMarkOf (height_terms v w (length w)) p) → IsWithin 130 p → ts ≡ terms p → length ts ≤ i → table ≡ map blank_for (take i ts)
+    → ((v : FormalPoint) → IsShift w v → IsMarkOf (height_terms v w (length w)) p) → IsWithin 130 p → ts ≡ terms p → length ts ≤ i
+    → table ≡ map blank_for (take i ts)
     → (IsTableOf w table) × (All IsSmallEntry table)
 table_of_pushed w p ts i table shift marks within ts_are all table_is =
     let is : table ≡ map blank_for (terms p) = table_is ∙ ap (map blank_for) (take_all i ts all ∙ ts_are) in

@@ -1,5 +1,6 @@
 -- Lists of numbers, one for each edge.
-use Rattle.std.proofs.Common.{◌≡◌, ◌≢◌, sym, ap, ap₂, ◌∙◌, subst, ℕ, ◌+◌, ◌-◌, ◌^◌, ◌<◌, ◌≤◌, List, length, get_or, set, ℤ, pos, ◌-ℤ◌, unsigned_abs, arith, below_more}
+use Rattle.std.proofs.Common.{◌≡◌, ◌≢◌, sym, ap, ap₂, ◌∙◌, subst, ℕ, ◌+◌, ◌-◌, ◌^◌, ◌<◌, ◌≤◌, List, length, get_or, set, ℤ, pos, ◌-ℤ◌, unsigned_abs}
+use Rattle.std.proofs.Common.{arith, below_more}
 use Rattle.std.proofs.Common.{get_or-set_other, get_or-set_same}
 use Rattle.ring_solver.proofs.Whole.{ℤ_ring, ℤ_image}
 use Rattle.edge_words.specs.Letters.{IsPlace}
@@ -55,7 +56,8 @@ module _ (w : List ℕ) (table : List SineLow) (heights : ℕ → FormalPoint �
 
 module _ (w : List ℕ) (table : List SineLow) (uppers lowers : List ℤ) (h : AreUppers w table uppers) (h' : AreLowers w table lowers) where
   -- the difference of two numbers is the function's
-  pub difference_is : (v : FormalPoint) → IsShift w v → (k l : ℕ) → IsPlace w k → IsPlace w l → difference uppers lowers k l ≡ number_in table (defining_function v w k l)
+  pub difference_is : (v : FormalPoint) → IsShift w v → (k l : ℕ) → IsPlace w k → IsPlace w l
+      → difference uppers lowers k l ≡ number_in table (defining_function v w k l)
   difference_is v shift k l p q =
       let low = p.0 in
       let low' = q.0 in

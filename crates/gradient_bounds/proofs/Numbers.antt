@@ -41,7 +41,8 @@ module _ (bits low high : ℕ) (L H : ℤ) (scale : IsScale bits low high L H) (
 
   pub little : FromSomeOn (λ n. (threshold_units bits low H r (weight f) (reach f) +ℤ pos (512 * weight f)) ÷ 1
       ≤ℚ threshold_of n (ball_of r).radius (slack high) f *ℚ whole (2 ^ bits))
-  little = threshold_little bits low high L H (drift_units H r (reach f)) (margin_units bits low (weight f)) f r.radius (unsigned_abs r.centre.den) scale.apart
+  little = threshold_little bits low high L H (drift_units H r (reach f)) (margin_units bits low (weight f)) f r.radius
+      (unsigned_abs r.centre.den) scale.apart
       scale.room refl is_drift scale.pi
 
   module _ (z : ℤ) (number : FromSomeOn (λ n. Encloses bits (allowed z f) (value_at n f (ball_of r).x (ball_of r).y))) where

@@ -105,18 +105,22 @@ module _ (bits : ℕ) (x y : ℚ) where
   low_holds [] d all any = let below = any.2 in absurd (omega (arith, below))
   low_holds (e ∷ es) d all any = by_test (is_same_dir e.dir d) refl (low_holds es d (All-tail (IsLowAt bits x y) e es all))
     where
-      by_test : (b : Bool) → is_same_dir e.dir d ≡ b → (Any (λ e. e.dir ≡ d) es → IsSineFrom (low_in es d) d) → IsSineFrom (if b then e.low else low_in es d) d
+      by_test : (b : Bool) → is_same_dir e.dir d ≡ b → (Any (λ e. e.dir ≡ d) es → IsSineFrom (low_in es d) d)
+          → IsSineFrom (if b then e.low else low_in es d) d
       by_test true is later = subst (IsSineFrom e.low) ((is_same_dir-Decides e.dir d).0 is) (All-head (IsLowAt bits x y) e es all)
       by_test false is later = later
           (any_rest (λ e. e.dir ≡ d) e es any (λ same. let yes = (is_same_dir-Decides e.dir d).1 same in let no : true ≡ false = sym yes ∙ is in cc))
 
 -- ---- sums over terms
 
-pub sum_small : (f : Dir → ℤ) → ((d : Dir) → unsigned_abs (f d) ≤ 2 ^ 62) → (ts : List Term) → unsigned_abs (weigh_terms ℤ_ring ℤ_image f ts) ≤ 2 ^ 62 * terms_weight ts
+pub sum_small : (f : Dir → ℤ) → ((d : Dir) → unsigned_abs (f d) ≤ 2 ^ 62) → (ts : List Term)
+    → unsigned_abs (weigh_terms ℤ_ring ℤ_image f ts) ≤ 2 ^ 62 * terms_weight ts
 sum_small f small [] = omega arith
 sum_small f small (t ∷ ts) =
-    let product : unsigned_abs (t.c *ℤ f t.dir) ≤ unsigned_abs t.c * 2 ^ 62 = product_size t.c (f t.dir) (unsigned_abs t.c) (2 ^ 62) (omega arith) (small t.dir) in
-    added (t.c *ℤ f t.dir) (weigh_terms ℤ_ring ℤ_image f ts) (unsigned_abs t.c) (terms_weight ts) (terms_weight (t ∷ ts)) (terms_weight-cons t ts) product (sum_small f small ts)
+    let product : unsigned_abs (t.c *ℤ f t.dir) ≤ unsigned_abs t.c * 2 ^ 62 = product_size t.c (f t.dir) (unsigned_abs t.c) (2 ^ 62) (omega arith)
+    (small t.dir) in
+    added (t.c *ℤ f t.dir) (weigh_terms ℤ_ring ℤ_image f ts) (unsigned_abs t.c) (terms_weight ts) (terms_weight (t ∷ ts))
+    (terms_weight-cons t ts) product (sum_small f small ts)
   where
     added : (a b : ℤ) (m n k : ℕ) → k ≡ m + n → unsigned_abs a ≤ m * 2 ^ 62 → unsigned_abs b ≤ 2 ^ 62 * n → unsigned_abs (a +ℤ b) ≤ 2 ^ 62 * k
     added a b m n k e h l = omega (arith, ints, e, h, l)
@@ -252,13 +256,27 @@ module _ (w : List ℕ) (table : List SineLow) (h : IsTableOf w table) (v : Form
   upper_listed k place = λ i t below.
       let f = upper_height v w k in
       h.all (get_or (terms f) i t).dir
-      (record { shift = v; is_shift = shift; corner = k; is_corner = place; has = inl (any_at (λ (u : Term). u.dir ≡ (get_or (terms f) i t).dir) (terms f) i t below refl) })
+      (record {
+        shift = v;
+        is_shift = shift;
+        corner = k;
+        is_corner = place;
+        has = inl (any_at (λ (u : Term). u.dir
+            ≡ (get_or (terms f) i t).dir) (terms f) i t below refl);
+      })
 
   pub lower_listed : (l : ℕ) → IsPlace w l → IsListed table (lower_height v w l)
   lower_listed l place = λ i t below.
       let f = lower_height v w l in
       h.all (get_or (terms f) i t).dir
-      (record { shift = v; is_shift = shift; corner = l; is_corner = place; has = inr (any_at (λ (u : Term). u.dir ≡ (get_or (terms f) i t).dir) (terms f) i t below refl) })
+      (record {
+        shift = v;
+        is_shift = shift;
+        corner = l;
+        is_corner = place;
+        has = inr (any_at (λ (u : Term). u.dir
+            ≡ (get_or (terms f) i t).dir) (terms f) i t below refl);
+      })
 
   pub function_listed : (k l : ℕ) → IsPlace w k → IsPlace w l → IsListed table (defining_function v w k l)
   function_listed k l p q =
@@ -303,7 +321,10 @@ low_size bits s low room h is =
 abbrev blank_entry : SineLow
 blank_entry = record { dir = zero_dir; low = pos 0 }
 
-same_directions : (es : List SineLow) (i : ℕ) (low : ℤ) → map (λ (e : SineLow). e.dir) (set es i (record { dir = (get_or es i blank_entry).dir; low = low })) ≡ map (λ (e : SineLow). e.dir) es
+same_directions : (es : List SineLow) (i : ℕ) (low : ℤ) → map (λ (e : SineLow). e.dir) (set es i (record {
+  dir = (get_or es i blank_entry).dir;
+  low = low;
+})) ≡ map (λ (e : SineLow). e.dir) es
 same_directions [] i low = refl
 same_directions (e ∷ es) zero low = refl
 same_directions (e ∷ es) (suc i) low = ap (λ ds. e.dir ∷ ds) (same_directions es i low)
@@ -312,7 +333,8 @@ pub next_entry : (bits : ℕ) (x y : ℚ) (old : List Dir) (es : List SineLow) (
     → All (λ (e : SineLow). IsNear 130 e.dir) es → AllWithin (IsLowAt bits x y) es 0 i → AllWithin IsSmallEntry es 0 i
     → IsSineFrom bits x y low (get_or es i blank_entry).dir → unsigned_abs low ≤ 2 ^ 62
     → let more = set es i (record { dir = (get_or es i blank_entry).dir; low = low }) in
-    (map (λ (e : SineLow). e.dir) more ≡ old) × (All (λ (e : SineLow). IsNear 130 e.dir) more) × (AllWithin (IsLowAt bits x y) more 0 (i + 1)) × (AllWithin IsSmallEntry more 0 (i + 1))
+    (map (λ (e : SineLow). e.dir) more ≡ old) × (All (λ (e : SineLow). IsNear 130 e.dir) more) × (AllWithin (IsLowAt bits x y) more 0 (i + 1)) ×
+    (AllWithin IsSmallEntry more 0 (i + 1))
 next_entry bits x y old es i low below same near lows small sine size =
     let e : SineLow = record { dir = (get_or es i blank_entry).dir; low = low } in
     let here : IsNear 130 e.dir = All-get_or (λ (e : SineLow). IsNear 130 e.dir) es i blank_entry below near in (

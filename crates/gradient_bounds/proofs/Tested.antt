@@ -45,14 +45,16 @@ use Rattle.gradient_bounds.proofs.Sums.{function_listed, bounds_hold}
 abbrev pub IsDriftIn : ℤ → Neighbourhood → (FormalPoint → ℤ) → Type 0
 IsDriftIn pi r drift = (f : FormalPoint) → drift f ≡ drift_units pi r (reach f)
 
-pub box_drift_is : (pi : ℤ) (box : Square) (r : Neighbourhood) → r.radius ≡ pos 1 → r.centre.den ≡ pos (2 ^ (box.level + 1)) → IsDriftIn pi r (box_drift pi box)
+pub box_drift_is : (pi : ℤ) (box : Square) (r : Neighbourhood) → r.radius ≡ pos 1 → r.centre.den ≡ pos (2 ^ (box.level + 1))
+    → IsDriftIn pi r (box_drift pi box)
 box_drift_is pi box r radius den f = λ i. rounded_up (pi *ℤ times i) (sym den i)
   where
     times : pos (reach f) ≡ pos (reach f) *ℤ r.radius
     times = ring₁ ℤ_ring (λ x. x) (λ x. x ⊠ num 1) refl (pos (reach f)) ∙ ap (λ z. pos (reach f) *ℤ z) (sym radius)
 
 pub no_drift_is : (pi : ℤ) (r : Neighbourhood) → r.radius ≡ pos 0 → pos 1 ≤ℤ r.centre.den → IsDriftIn pi r no_drift
-no_drift_is pi r radius positive f = ceiling_is (pos 0) (pi *ℤ (pos (reach f) *ℤ r.radius)) r.centre.den positive (ceiling (pi *ℤ (pos (reach f) *ℤ r.radius)) r.centre.den none positive)
+no_drift_is pi r radius positive f = ceiling_is (pos 0) (pi *ℤ (pos (reach f) *ℤ r.radius)) r.centre.den positive (ceiling (pi *ℤ (pos
+    (reach f) *ℤ r.radius)) r.centre.den none positive)
   where
     none : pi *ℤ (pos (reach f) *ℤ r.radius) ≡ pos 0
     none = ap (λ z. pi *ℤ (pos (reach f) *ℤ z)) radius ∙ ring₂ ℤ_ring (λ p x. p ⊠ (x ⊠ num 0)) (λ p x. num 0) refl pi (pos (reach f))
@@ -88,7 +90,8 @@ pub record IsTested (w : List ℕ) (table : List SineLow) (us ls : List ℤ) : T
   pub lowers : AreLowers w table ls
 
 module _ (bits low high : ℕ) (L H : ℤ) (scale : IsScale bits low high L H) (w : List ℕ) (table : List SineLow) (us ls : List ℤ) (h : IsTested w table us ls)
-    (r : Neighbourhood) (near : IsNeighbourhood r) (filled : All (IsLowAt bits (ball_of r).x (ball_of r).y) table) (drift : FormalPoint → ℤ) (drift_is : IsDriftIn H r drift) where
+    (r : Neighbourhood) (near : IsNeighbourhood r) (filled : All (IsLowAt bits (ball_of r).x (ball_of r).y) table) (drift : FormalPoint
+    → ℤ) (drift_is : IsDriftIn H r drift) where
   abbrev F : FormalPoint → ℕ → ℕ → FormalPoint
   F v k l = defining_function v w k l
 
@@ -114,7 +117,8 @@ module _ (bits low high : ℕ) (L H : ℤ) (scale : IsScale bits low high L H) (
         stable = h.stable;
         shift = shift.0;
         is_shift = shift.1;
-        each = λ k l p q. f shift.0 shift.1 k l p q (subst (λ z. needed bits low H r (F shift.0 k l) ≤ℤ z) (number_is shift.0 shift.1 k l p q) (reaches k l p q shift.0 shift.1));
+        each = λ k l p q. f shift.0 shift.1 k l p q (subst (λ z. needed bits low H r (F shift.0 k l) ≤ℤ z) (number_is shift.0 shift.1 k l p q)
+            (reaches k l p q shift.0 shift.1));
       }
 
   each_back : (P : FormalPoint → Type 0) → ((v : FormalPoint) (shift : IsShift w v) (k l : ℕ) (p : IsPlace w k) (q : IsPlace w l)
@@ -156,7 +160,8 @@ module _ (bits low high : ℕ) (L H : ℤ) (scale : IsScale bits low high L H) (
         is_upper = some.is_upper;
         is_lower = some.row.is_lower;
         holds = f shift.0 shift.1 k l some.is_upper some.row.is_lower
-            (subst (λ z. z ≤ℤ neg_ℤ (needed bits low H r (F shift.0 k l))) (number_is shift.0 shift.1 k l some.is_upper some.row.is_lower) (some.row.falls shift.0 shift.1));
+            (subst (λ z. z ≤ℤ neg_ℤ (needed bits low H r (F shift.0 k l))) (number_is shift.0 shift.1 k l some.is_upper some.row.is_lower)
+            (some.row.falls shift.0 shift.1));
       }
 
   some_back : (P : FormalPoint → Type 0) → ((v : FormalPoint) (shift : IsShift w v) (k l : ℕ) (p : IsPlace w k) (q : IsPlace w l)

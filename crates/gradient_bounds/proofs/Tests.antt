@@ -1,5 +1,6 @@
 -- What a `Prepared` keeps, and what its tests and bounds answer.
-use Rattle.std.proofs.Common.{◌≡◌, refl, sym, ap, ap₂, ◌∙◌, subst, subst₂, ℕ, zero, suc, ◌+◌, ◌-◌, ◌*◌, ◌^◌, ◌<◌, ◌≤◌, List, [], ◌∷◌, map, length, get_or, ℤ, pos, ◌+ℤ◌, ◌-ℤ◌, ◌*ℤ◌}
+use Rattle.std.proofs.Common.{◌≡◌, refl, sym, ap, ap₂, ◌∙◌, subst, subst₂, ℕ, zero, suc, ◌+◌, ◌-◌, ◌*◌, ◌^◌, ◌<◌, ◌≤◌, List, [], ◌∷◌, map, length}
+use Rattle.std.proofs.Common.{get_or, ℤ, pos, ◌+ℤ◌, ◌-ℤ◌, ◌*ℤ◌}
 use Rattle.std.proofs.Common.{◌≤ℤ◌, unsigned_abs, FitsSigned, lit<, arith, Some, None, Option}
 use Rattle.std.specs.Prelude.{◌↔◌, IfSome}
 use Rattle.std.specs.Int.{w64, w128}
@@ -60,17 +61,21 @@ module _ (w : List ℕ) (old new : List SineLow) (same : map (λ (e : SineLow). 
 
   pub same_table : IsTableOf w old → IsTableOf w new
   same_table h = record {
-    rising = λ i j e lt below. subst₂ (λ a b. dir_cmp a b ≡ Less) (sym (same_at i e)) (sym (same_at j e)) (h.rising i j e lt (omega (arith, below, same_length)));
+    rising = λ i j e lt below. subst₂ (λ a b. dir_cmp a b ≡ Less) (sym (same_at i e)) (sym (same_at j e)) (h.rising i j e lt (omega
+        (arith, below, same_length)));
     only = λ i e below. subst (IsDirOfHeight w) (sym (same_at i e)) (h.only i e (omega (arith, below, same_length)));
     all = λ d is.
         let any = h.all d is in
         let below = any.2 in
-        any_at (λ (e : SineLow). e.dir ≡ d) new any.0 any.1 (omega (arith, below, same_length)) (same_at any.0 any.1 ∙ ap (λ (e : SineLow). e.dir) any.3 ∙ any.4);
+        any_at (λ (e : SineLow). e.dir ≡ d) new any.0 any.1 (omega (arith, below, same_length)) (same_at any.0 any.1
+        ∙ ap (λ (e : SineLow). e.dir) any.3 ∙ any.4);
   }
 
-pub filled_again : (bits : ℕ) (w u : List ℕ) (m : Most) (p : Option (Written × Written)) (table new table' : List SineLow) (us ls us' ls' us'' ls'' : List ℤ) (x y : Written)
+pub filled_again : (bits : ℕ) (w u : List ℕ) (m : Most) (p : Option (Written × Written)) (table new table' : List SineLow)
+    (us ls us' ls' us'' ls'' : List ℤ) (x y : Written)
     → IsPrepared bits w u m p table us ls → map (λ (e : SineLow). e.dir) new ≡ map (λ (e : SineLow). e.dir) table → All (IsLowAt bits (value x) (value y)) new
-    → All IsSmallEntry new → AreUppers u new us' → AreLowers u new ls' → table' ≡ new → us'' ≡ us' → ls'' ≡ ls' → IsPrepared bits w u m (Some (x, y)) table' us'' ls''
+    → All IsSmallEntry new → AreUppers u new us' → AreLowers u new ls' → table' ≡ new → us'' ≡ us' → ls'' ≡ ls'
+    → IsPrepared bits w u m (Some (x, y)) table' us'' ls''
 filled_again bits w u m p table new table' us ls us' ls' us'' ls'' x y h same lows small uppers lowers table_is us_is ls_is =
     subst (λ es. IsPrepared bits w u m (Some (x, y)) es us'' ls'') (sym table_is)
     (subst₂ (λ a b. IsPrepared bits w u m (Some (x, y)) new a b) (sym us_is) (sym ls_is) (record {
@@ -87,7 +92,8 @@ filled_again bits w u m p table new table' us ls us' ls' us'' ls'' x y h same lo
 
 -- ---- the table as it was filled
 
-pub filled_lows : (bits : ℕ) (p : Option (Written × Written)) (table : List SineLow) → IsFilledAt bits p table → IfSome p (λ q. All (IsLowAt bits (value q.0) (value q.1)) table)
+pub filled_lows : (bits : ℕ) (p : Option (Written × Written)) (table : List SineLow) → IsFilledAt bits p table
+    → IfSome p (λ q. All (IsLowAt bits (value q.0) (value q.1)) table)
 filled_lows bits None table h = h
 filled_lows bits (Some q) table h = h
 
@@ -97,24 +103,30 @@ pub form_holds : (bits : ℕ) (p : Option (Written × Written)) (table : List Si
     → IfSome p (λ q. (v : FormalPoint) → P v → FromSomeOn (λ n. Encloses bits r (value_at n (form v) (value q.0) (value q.1))))
 form_holds bits None table P form r h listed is = h
 form_holds bits (Some q) table P form r h listed is = λ v here.
-    subst (λ e. FromSomeOn (λ n. Encloses bits e (value_at n (form v) (value q.0) (value q.1)))) (sym (is v here)) (bounds_hold bits (value q.0) (value q.1) table (form v) h (listed v here))
+    subst (λ e. FromSomeOn (λ n. Encloses bits e (value_at n (form v) (value q.0) (value q.1)))) (sym (is v here)) (bounds_hold bits (value q.0)
+    (value q.1) table (form v) h (listed v here))
 
 -- ---- bounds
 
 -- the ends around a number that is a form's, at the form's weight
-pub ends_are : (table : List SineLow) (f : FormalPoint) (r : Ends) (z : ℤ) (a : ℕ) → r ≡ record { lo = z -ℤ pos (256 * a); hi = z +ℤ pos (256 * a) } → z ≡ number_in table f
+pub ends_are : (table : List SineLow) (f : FormalPoint) (r : Ends) (z : ℤ) (a : ℕ) → r ≡ record {
+  lo = z -ℤ pos (256 * a);
+  hi = z +ℤ pos (256 * a);
+} → z ≡ number_in table f
     → a ≡ weight f → r ≡ bounds_in table f
 ends_are table f r z a r_is z_is a_is = r_is ∙ ap₂ (λ (z : ℤ) (a : ℕ). record { lo = z -ℤ pos (256 * a); hi = z +ℤ pos (256 * a) }) z_is a_is
 
 -- ---- tests
 
 -- what the decision says of the table, and of the functions in a neighbourhood
-pub record IsEachTest (bits low high : ℕ) (pi : ℤ) (u : List ℕ) (us ls : List ℤ) (r : Neighbourhood) (drift : FormalPoint → ℤ) (now : PreparedWord) : Type 0 where
+pub record IsEachTest (bits low high : ℕ) (pi : ℤ) (u : List ℕ) (us ls : List ℤ) (r : Neighbourhood) (drift : FormalPoint
+    → ℤ) (now : PreparedWord) : Type 0 where
   pub decided : EachReaches (needed bits low pi r) u us ls ↔ EachFunction now.word (LowerEndReaches bits low drift now.table)
   pub clear : EachReaches (needed bits low pi r) u us ls → EachFunction now.word (IsClearIn (ball_of r) (slack low))
   pub found : EachFunction now.word (IsClearIn (ball_of r) (slack high)) → EachReaches (needed bits low pi r) u us ls
 
-pub record IsSomeTest (bits low high : ℕ) (pi : ℤ) (u : List ℕ) (us ls : List ℤ) (r : Neighbourhood) (drift : FormalPoint → ℤ) (now : PreparedWord) : Type 0 where
+pub record IsSomeTest (bits low high : ℕ) (pi : ℤ) (u : List ℕ) (us ls : List ℤ) (r : Neighbourhood) (drift : FormalPoint
+    → ℤ) (now : PreparedWord) : Type 0 where
   pub decided : SomeFallsBelow (needed bits low pi r) u us ls ↔ SomeFunction now.word (UpperEndFalls bits low drift now.table)
   pub shut : SomeFallsBelow (needed bits low pi r) u us ls → SomeFunction now.word (IsShutIn (ball_of r) (slack low))
   pub found : SomeFunction now.word (IsShutIn (ball_of r) (slack high)) → SomeFallsBelow (needed bits low pi r) u us ls
@@ -143,10 +155,13 @@ module _ (bits low high : ℕ) (L H : ℤ) (scale : IsScale bits low high L H) (
     λ e. subst (λ v. SomeFallsBelow needs v us' ls') (sym h.same_word) (subst₂ (λ a b. SomeFallsBelow needs w a b) (sym us_is) (sym ls_is) e),
   )
 
-  module _ (now : PreparedWord) (view : ◌≡◌ {A = PreparedWord} (record { word = w; point = p; table = table }) now) (x y : Written) (at : now.point ≡ Some (x, y))
-      (r : Neighbourhood) (near : IsNeighbourhood r) (x_is : (ball_of r).x ≡ value x) (y_is : (ball_of r).y ≡ value y) (drift : FormalPoint → ℤ) (drift_is : IsDriftIn H r drift) where
+  module _ (now : PreparedWord) (view : ◌≡◌ {A = PreparedWord} (record { word = w; point = p; table = table }) now) (x y : Written) (at : now.point
+      ≡ Some (x, y))
+      (r : Neighbourhood) (near : IsNeighbourhood r) (x_is : (ball_of r).x ≡ value x) (y_is : (ball_of r).y ≡ value y) (drift : FormalPoint
+      → ℤ) (drift_is : IsDriftIn H r drift) where
     filled : All (IsLowAt bits (ball_of r).x (ball_of r).y) table
-    filled = subst₂ (λ a b. All (IsLowAt bits a b) table) (sym x_is) (sym y_is) (subst (λ q. IsFilledAt bits q table) (ap (λ (n : PreparedWord). n.point) view ∙ at) h.filled)
+    filled = subst₂ (λ a b. All (IsLowAt bits a b) table) (sym x_is) (sym y_is) (subst (λ q. IsFilledAt bits q table) (ap (λ
+        (n : PreparedWord). n.point) view ∙ at) h.filled)
 
     abbrev needs : FormalPoint → ℤ
     needs = needed bits low H r
@@ -209,9 +224,11 @@ pub record IsBound (bits : ℕ) (now : PreparedWord) (form : List ℕ → Formal
   pub ends : (r : Ends) → r ≡ record { lo = c -ℤ pos (256 * unsigned_abs z); hi = c +ℤ pos (256 * unsigned_abs z) } → (v : FormalPoint) → IsShift now.word v
       → r ≡ bounds_in now.table (form now.word v)
   pub holds : (r : Ends) → r ≡ record { lo = c -ℤ pos (256 * unsigned_abs z); hi = c +ℤ pos (256 * unsigned_abs z) }
-      → IfSome now.point (λ q. (v : FormalPoint) → IsShift now.word v → FromSomeOn (λ n. Encloses bits r (value_at n (form now.word v) (value q.0) (value q.1))))
+      → IfSome now.point (λ q. (v : FormalPoint) → IsShift now.word v → FromSomeOn (λ n. Encloses bits r (value_at n (form now.word v) (value q.0)
+      (value q.1))))
 
-module _ (bits : ℕ) (w u : List ℕ) (m : Most) (p : Option (Written × Written)) (table : List SineLow) (us ls : List ℤ) (h : IsPrepared bits w u m p table us ls)
+module _ (bits : ℕ) (w u : List ℕ) (m : Most) (p : Option (Written × Written)) (table : List SineLow) (us ls : List ℤ)
+    (h : IsPrepared bits w u m p table us ls)
     (now : PreparedWord) (view : ◌≡◌ {A = PreparedWord} (record { word = w; point = p; table = table }) now) where
   bound_of : (form : List ℕ → FormalPoint → FormalPoint) (c z : ℤ) → ((v : FormalPoint) → IsShift w v → IsListed table (form w v)) → unsigned_abs c ≤ 2 ^ 80
       → ((v : FormalPoint) → IsShift w v → c ≡ number_in table (form w v)) → ((v : FormalPoint) → IsShift u v → z ≡ pos (weight (form u v))) → z ≤ℤ pos 16384
@@ -220,7 +237,8 @@ module _ (bits : ℕ) (w u : List ℕ) (m : Most) (p : Option (Written × Writte
       let shift = has_shift w h.word h.stable in
       let weight_is = subst (λ x. (v : FormalPoint) → IsShift x v → z ≡ pos (weight (form x v))) h.same_word weighs in
       let here = weight_is shift.0 shift.1 in
-      let ends : (r : Ends) → r ≡ record { lo = c -ℤ pos (256 * unsigned_abs z); hi = c +ℤ pos (256 * unsigned_abs z) } → (v : FormalPoint) → IsShift w v → r ≡ bounds_in table (form w v) =
+      let ends : (r : Ends) → r ≡ record { lo = c -ℤ pos (256 * unsigned_abs z); hi = c +ℤ pos (256 * unsigned_abs z) } → (v : FormalPoint)
+      → IsShift w v → r ≡ bounds_in table (form w v) =
       λ r r_is v is. ends_are table (form w v) r c (unsigned_abs z) r_is (number v is) (ap unsigned_abs (weight_is v is)) in
       subst (λ (n : PreparedWord). IsBound bits n form c z) view (record {
         number_fits = fits_signed_from_abs w128 c (omega (arith, size));
@@ -269,7 +287,8 @@ module _ (bits : ℕ) (w u : List ℕ) (m : Most) (p : Option (Written × Writte
       record {
         upper_fits = fits_signed_from_abs w128 a (omega (arith, upper.small));
         lower_fits = fits_signed_from_abs w128 b (omega (arith, lower.small));
-        bound = bound_of (λ w v. defining_function v w k l) (a -ℤ b) z (λ v shift. function_listed w table h.directions v shift k l (place_in k p) (place_in l q))
+        bound = bound_of (λ w v. defining_function v w k l) (a -ℤ b) z (λ v shift. function_listed w table h.directions v shift k l (place_in k p)
+            (place_in l q))
             (apart a b upper.small lower.small)
             (λ v shift. ap₂ ◌-ℤ◌ (upper.is v shift) (lower.is v shift) ∙ sym (number_difference table v w k l)) weighs most;
       }
@@ -277,18 +296,22 @@ module _ (bits : ℕ) (w u : List ℕ) (m : Most) (p : Option (Written × Writte
       apart : (a b : ℤ) → unsigned_abs a ≤ 2 ^ 76 → unsigned_abs b ≤ 2 ^ 76 → unsigned_abs (a -ℤ b) ≤ 2 ^ 80
       apart a b h k = omega (arith, ints, h, k)
 
-  pub upper_bound : (k : ℕ) (a z : ℤ) (f : FormalPoint) → IsPlace now.word k → a ≡ get_or us (k - 1) a → ((v : FormalPoint) → IsShift u v → f ≡ upper_height v u k)
+  pub upper_bound : (k : ℕ) (a z : ℤ) (f : FormalPoint) → IsPlace now.word k → a ≡ get_or us (k - 1) a → ((v : FormalPoint) → IsShift u v
+      → f ≡ upper_height v u k)
       → z ≡ pos (weight f) → weight f ≤ 16384 → IsBound bits now (λ w v. upper_height v w k) a z
   upper_bound k a z f place a_is f_is z_is light =
       let upper = upper_number k a (place_in k place) a_is in
-      bound_of (λ w v. upper_height v w k) a z (λ v shift. upper_listed w table h.directions v shift k (place_in k place)) (omega (arith, upper.small)) upper.is
+      bound_of (λ w v. upper_height v w k) a z (λ v shift. upper_listed w table h.directions v shift k (place_in k place)) (omega
+      (arith, upper.small)) upper.is
       (λ v shift. z_is ∙ ap (λ f. pos (weight f)) (f_is v shift)) (subst (λ y. y ≤ℤ pos 16384) (sym z_is) (pos_le (weight f) 16384 light))
 
-  pub lower_bound : (l : ℕ) (b z : ℤ) (f : FormalPoint) → IsPlace now.word l → b ≡ get_or ls (l - 1) b → ((v : FormalPoint) → IsShift u v → f ≡ lower_height v u l)
+  pub lower_bound : (l : ℕ) (b z : ℤ) (f : FormalPoint) → IsPlace now.word l → b ≡ get_or ls (l - 1) b → ((v : FormalPoint) → IsShift u v
+      → f ≡ lower_height v u l)
       → z ≡ pos (weight f) → weight f ≤ 16384 → IsBound bits now (λ w v. lower_height v w l) b z
   lower_bound l b z f place b_is f_is z_is light =
       let lower = lower_number l b (place_in l place) b_is in
-      bound_of (λ w v. lower_height v w l) b z (λ v shift. lower_listed w table h.directions v shift l (place_in l place)) (omega (arith, lower.small)) lower.is
+      bound_of (λ w v. lower_height v w l) b z (λ v shift. lower_listed w table h.directions v shift l (place_in l place)) (omega
+      (arith, lower.small)) lower.is
       (λ v shift. z_is ∙ ap (λ f. pos (weight f)) (f_is v shift)) (subst (λ y. y ≤ℤ pos 16384) (sym z_is) (pos_le (weight f) 16384 light))
 
 -- ---- a new one

@@ -197,7 +197,8 @@ numerator_computed dir a p q near angles p_is q_is =
 
 -- the turn at the machine's numbers
 pub turn_computed : (dir : Dir) (a : Angles) (z : ℤ) → IsAngles a → unsigned_abs z ≤ 2 ^ 52
-    → z ÷ unsigned_abs a.den ≡ turn_of dir (first_angle a) (second_angle a) → kept z ÷ unsigned_abs (kept a.den) ≡ turn_of dir (first_angle a) (second_angle a)
+    → z ÷ unsigned_abs a.den ≡ turn_of dir (first_angle a) (second_angle a) → kept z ÷ unsigned_abs (kept a.den)
+    ≡ turn_of dir (first_angle a) (second_angle a)
 turn_computed dir a z angles small is =
     let z_fits : FitsSigned w128 z = fits_128 z (omega arith) in
     let den_fits = angles_fit a angles in

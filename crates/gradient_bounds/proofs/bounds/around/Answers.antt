@@ -5,7 +5,8 @@ use Rattle.gradient_bounds.proofs.bounds.around.Goals as goal
 
 pub returns : goal.returns
 returns g c =
-    let is = around_computed c.args.number c.args.weight c.from-error.result c.requires.size c.requires.weight_least c.requires.weight_most c.from-error.ensures in
+    let is = around_computed c.args.number c.args.weight c.from-error.result c.requires.size c.requires.weight_least c.requires.weight_most
+    c.from-error.ensures in
     let number = is.number in
     let factor = is.factor in
     let error = is.error in

@@ -11,7 +11,16 @@ add_directions-requires-clause-light c =
     let terms_are = ap length c.terms.ensures.all in
     let few = count_of_terms c.upper_height.result.now in
     let light = c.upper_height.ensures.limits.light in
-    omega (arith, terms_are, few, light, c.loop-i.invariant.2, c.loop-i-test.true, c.letters-i-end.ensures.count, c.letters-i-end.ensures.word.even_length.at_most)
+    omega (
+      arith,
+      terms_are,
+      few,
+      light,
+      c.loop-i.invariant.2,
+      c.loop-i-test.true,
+      c.letters-i-end.ensures.count,
+      c.letters-i-end.ensures.word.even_length.at_most,
+    )
 
 pub add_directions-requires-in-loop-i-clause-light : goal.add_directions-requires-in-loop-i-clause-light
 add_directions-requires-in-loop-i-clause-light c =
@@ -22,7 +31,20 @@ add_directions-requires-in-loop-i-clause-light c =
     let few' = count_of_terms c.lower_height.result.now in
     let light' = c.lower_height.ensures.limits.light in
     let added = c.in_ok-add_directions.ensures.light in
-    omega (arith, terms_are, few, light, terms_are', few', light', added, c.loop-i.invariant.2, c.loop-i-test.true, c.letters-i-end.ensures.count, c.letters-i-end.ensures.word.even_length.at_most)
+    omega (
+      arith,
+      terms_are,
+      few,
+      light,
+      terms_are',
+      few',
+      light',
+      added,
+      c.loop-i.invariant.2,
+      c.loop-i-test.true,
+      c.letters-i-end.ensures.count,
+      c.letters-i-end.ensures.word.even_length.at_most,
+    )
 
 pub loop-i-preserved : goal.loop-i-preserved
 loop-i-preserved c =

@@ -9,7 +9,8 @@ pub loop-i-preserved : goal.loop-i-preserved
 loop-i-preserved c =
     let w = c.args.functions.now in
     let fits : FitsSigned w128 c.number_of.result = record { sfits = c.number_of.type_inv } in
-    let below : c.loop-i.i < length c.loop-i.numbers = omega (arith, c.loop-i-test.true, c.letters-i-end.ensures.count, c.requires.count, c.loop-i.auto.numbers) in
+    let below : c.loop-i.i < length c.loop-i.numbers = omega
+    (arith, c.loop-i-test.true, c.letters-i-end.ensures.count, c.requires.count, c.loop-i.auto.numbers) in
     simp to_z-of_z
     (next_number w c.args.table.now (λ j v. lower_height v w (j + 1)) c.loop-i.numbers c.loop-i.i c.number_of.result below c.loop-i.invariant
     (number_of_height w c.args.table.now (λ v. lower_height v w (c.loop-i.i + 1)) c.lower_height.result.now c.terms.result.now c.number_of.result

@@ -9,7 +9,8 @@ use Rattle.gradient_bounds.proofs.height_numbers.number_of.Goals as goal
 blank : Term
 blank = record { dir = record { m = pos 0; n = pos 0 }; c = pos 0 }
 
-step : (c : goal.After-low_at) → IsStep (low_in c.args.table.now) c.args.terms.now c.loop-term.term-index (to_z w128 c.loop-term.total-bits) c.from.result c.low_at.result
+step : (c : goal.After-low_at) → IsStep (low_in c.args.table.now) c.args.terms.now c.loop-term.term-index
+    (to_z w128 c.loop-term.total-bits) c.from.result c.low_at.result
 unfolding blank
 step c =
     step_at c.args.table.now c.requires.small c.args.terms.now c.loop-term.term-index blank (to_z w128 c.loop-term.total-bits) c.from.result c.low_at.result
@@ -41,4 +42,5 @@ loop-term-preserved c =
 
 pub returns-clause-size : goal.returns-clause-size
 returns-clause-size c =
-    number_size c.args.table.now c.requires.small c.args.terms.now c.loop-term.term-index (to_z w128 c.loop-term.total-bits) c.requires.light c.loop-term.invariant
+    number_size c.args.table.now c.requires.small c.args.terms.now c.loop-term.term-index
+    (to_z w128 c.loop-term.total-bits) c.requires.light c.loop-term.invariant

@@ -1,11 +1,54 @@
-use Rattle.std.proofs.Common.{◌≡◌, ◌∙◌, sym, ap, subst, subst₂, length, map, drop, List, arith}
+use Rattle.std.proofs.Common.{◌≡◌, ◌∙◌, sym, ap, subst, subst₂, length, map, take, drop, ◌++◌, List, ℕ, arith}
 use Rattle.std.proofs.lemmas.List.{take_at, length-map}
 use Rattle.std.specs.List.{All}
 use Rattle.gradient_bounds.specs.declared.sine_low.SineLow.{SineLow}
-use Rattle.gradient_bounds.specs.Table.{IsLowAt}
-use Rattle.gradient_bounds.specs.Kept.{AreUppers, AreLowers}
-use Rattle.gradient_bounds.proofs.Tests.{filled_again}
+use Rattle.gradient_bounds.specs.Table.{IsRising, IsTableOf, IsLowAt}
+use Rattle.gradient_bounds.specs.Kept.{IsSmallEntry, AreUppers, AreLowers}
+use Rattle.gradient_bounds.proofs.Tests.{same_table, filled_again}
 use Rattle.gradient_bounds.proofs.prepared.Prepared.fill.Goals as goal
+
+-- what `number_uppers` and `number_lowers` ask of the table that was filled
+filled_rising : (w : List ℕ) (old new seen rest : List SineLow) (n : ℕ) → map (λ (e : SineLow). e.dir) new ≡ map (λ (e : SineLow). e.dir) old → IsTableOf w old
+    → length old ≡ n → seen ≡ take n (new ++ rest) → IsRising seen
+filled_rising w old new seen rest n same table count is =
+    let len : length new ≡ n =
+    omega (arith, sym (length-map new (λ (e : SineLow). e.dir)), ap length same, length-map old (λ (e : SineLow). e.dir), count) in
+    subst IsRising (sym (is ∙ take_at new rest n len)) (same_table w old new same table).rising
+
+filled_small : (old new seen rest : List SineLow) (n : ℕ) → map (λ (e : SineLow). e.dir) new ≡ map (λ (e : SineLow). e.dir) old
+    → length old ≡ n → All IsSmallEntry new → seen ≡ take n (new ++ rest) → All IsSmallEntry seen
+filled_small old new seen rest n same count small is =
+    let len : length new ≡ n =
+    omega (arith, sym (length-map new (λ (e : SineLow). e.dir)), ap length same, length-map old (λ (e : SineLow). e.dir), count) in
+    subst (All IsSmallEntry) (sym (is ∙ take_at new rest n len)) small
+
+pub number_uppers-requires-clause-rising : goal.number_uppers-requires-clause-rising
+number_uppers-requires-clause-rising g c =
+    let i = c.self.inside in
+    filled_rising i.word i.table.items c.fill.new.table c.deref.result.now _ i.table.len
+    (c.fill.ensures.directions ∙ ap (λ (es : List SineLow). map (λ (e : SineLow). e.dir) es) c.deref_mut.ensures.value)
+    c.self.invariant.directions i.table.ok.0 c.deref.ensures.value
+
+pub number_uppers-requires-clause-small : goal.number_uppers-requires-clause-small
+number_uppers-requires-clause-small g c =
+    let i = c.self.inside in
+    filled_small i.table.items c.fill.new.table c.deref.result.now _ i.table.len
+    (c.fill.ensures.directions ∙ ap (λ (es : List SineLow). map (λ (e : SineLow). e.dir) es) c.deref_mut.ensures.value)
+    i.table.ok.0 c.fill.ensures.small c.deref.ensures.value
+
+pub number_lowers-requires-clause-rising : goal.number_lowers-requires-clause-rising
+number_lowers-requires-clause-rising g c =
+    let i = c.self.inside in
+    filled_rising i.word i.table.items c.fill.new.table c.deref-2.result.now _ i.table.len
+    (c.fill.ensures.directions ∙ ap (λ (es : List SineLow). map (λ (e : SineLow). e.dir) es) c.deref_mut.ensures.value)
+    c.self.invariant.directions i.table.ok.0 c.deref-2.ensures.value
+
+pub number_lowers-requires-clause-small : goal.number_lowers-requires-clause-small
+number_lowers-requires-clause-small g c =
+    let i = c.self.inside in
+    filled_small i.table.items c.fill.new.table c.deref-2.result.now _ i.table.len
+    (c.fill.ensures.directions ∙ ap (λ (es : List SineLow). map (λ (e : SineLow). e.dir) es) c.deref_mut.ensures.value)
+    i.table.ok.0 c.fill.ensures.small c.deref-2.ensures.value
 
 pub invariant_of-self : goal.invariant_of-self
 invariant_of-self g c =
@@ -13,7 +56,14 @@ invariant_of-self g c =
     let dirs = λ (es : List SineLow). map (λ (e : SineLow). e.dir) es in
     let same : dirs c.fill.new.table ≡ dirs i.table.items = c.fill.ensures.directions ∙ ap dirs c.deref_mut.ensures.value in
     let len : length c.fill.new.table ≡ i.table.len =
-    omega (arith, sym (length-map c.fill.new.table (λ (e : SineLow). e.dir)), ap length same, length-map i.table.items (λ (e : SineLow). e.dir), i.table.ok.0) in
+    omega (
+      arith,
+      sym (length-map c.fill.new.table (λ (e : SineLow). e.dir)),
+      ap length same,
+      length-map i.table.items (λ
+          (e : SineLow). e.dir),
+      i.table.ok.0,
+    ) in
     let table_is = take_at c.fill.new.table (drop (length c.fill.new.table) i.table.items) i.table.len len in
     let us_len : length c.number_uppers.new.numbers ≡ i.uppers.len =
     omega (arith, c.number_uppers.ensures.count, ap length c.self.invariant.same_word, c.self.invariant.uppers.count, i.uppers.ok.0) in
@@ -23,7 +73,8 @@ invariant_of-self g c =
     let ls_is = take_at c.number_lowers.new.numbers (drop (length c.number_lowers.new.numbers) i.lowers.items) i.lowers.len ls_len in
     filled_again g.S.Scale.BITS i.word i.functions i.most i.point i.table.items c.fill.new.table _ i.uppers.items i.lowers.items c.number_uppers.new.numbers
     c.number_lowers.new.numbers _ _ c.args.x c.args.y c.self.invariant same
-    (subst₂ (λ x y. All (IsLowAt g.S.Scale.BITS x y) c.fill.new.table) c.over_one_denominator-at.ensures.first c.over_one_denominator-at.ensures.second c.fill.ensures.lows)
+    (subst₂ (λ x y. All (IsLowAt g.S.Scale.BITS x y) c.fill.new.table) c.over_one_denominator-at.ensures.first
+    c.over_one_denominator-at.ensures.second c.fill.ensures.lows)
     c.fill.ensures.small
     (subst (λ es. AreUppers i.functions es c.number_uppers.new.numbers) (c.deref.ensures.value ∙ table_is) c.number_uppers.ensures)
     (subst (λ es. AreLowers i.functions es c.number_lowers.new.numbers) (c.deref-2.ensures.value ∙ table_is) c.number_lowers.ensures)

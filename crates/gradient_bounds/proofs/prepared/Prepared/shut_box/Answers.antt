@@ -24,19 +24,23 @@ some_falls_below-requires-clause-uppers g c =
 pub some_falls_below-requires-clause-lowers : goal.some_falls_below-requires-clause-lowers
 some_falls_below-requires-clause-lowers g c =
     let i = c.self.inside in
-    numbers_low g.S.Scale.BITS g.S.Scale.LOW_BITS g.S.Scale.HIGH_BITS g.S.Scale.PI_LO g.S.Scale.PI_HI (scale g) i.word i.functions i.most i.point i.table.items
+    numbers_low g.S.Scale.BITS g.S.Scale.LOW_BITS g.S.Scale.HIGH_BITS g.S.Scale.PI_LO g.S.Scale.PI_HI
+    (scale g) i.word i.functions i.most i.point i.table.items
     i.uppers.items i.lowers.items c.deref.result.now c.deref-2.result.now c.self.invariant c.deref.ensures.value c.deref-2.ensures.value
 
 is : (g : given.Over) (c : goal.After-some_falls_below g)
-    → IsSomeTest g.S.Scale.BITS g.S.Scale.LOW_BITS g.S.Scale.HIGH_BITS g.S.Scale.PI_HI c.self.inside.functions c.deref.result.now c.deref-2.result.now c.square.result
+    → IsSomeTest g.S.Scale.BITS g.S.Scale.LOW_BITS g.S.Scale.HIGH_BITS g.S.Scale.PI_HI c.self.inside.functions c.deref.result.now
+    c.deref-2.result.now c.square.result
     (box_drift g.S.Scale.PI_HI c.args.place) c.move_to_centre.new.self
 is g c =
     let i = c.self.inside in
     let r = c.square.result in
     let near = c.square.ensures.neighbourhood in
     some_test g.S.Scale.BITS g.S.Scale.LOW_BITS g.S.Scale.HIGH_BITS g.S.Scale.PI_LO g.S.Scale.PI_HI (scale g) i.word i.functions i.most i.point i.table.items
-    i.uppers.items i.lowers.items c.deref.result.now c.deref-2.result.now c.self.invariant c.deref.ensures.value c.deref-2.ensures.value c.move_to_centre.new.self
-    c.self.view_is (centre_of c.args.place).0 (centre_of c.args.place).1 c.move_to_centre.ensures.point r near (ap (λ (b : Ball). b.x) c.square.ensures.ball ∙ sym (ap (λ (q : Point). q.x) c.move_to_centre.ensures.centre))
+    i.uppers.items i.lowers.items c.deref.result.now c.deref-2.result.now c.self.invariant c.deref.ensures.value c.deref-2.ensures.value
+    c.move_to_centre.new.self
+    c.self.view_is (centre_of c.args.place).0 (centre_of c.args.place).1 c.move_to_centre.ensures.point r near (ap (λ
+    (b : Ball). b.x) c.square.ensures.ball ∙ sym (ap (λ (q : Point). q.x) c.move_to_centre.ensures.centre))
     (ap (λ (b : Ball). b.y) c.square.ensures.ball ∙ sym (ap (λ (q : Point). q.y) c.move_to_centre.ensures.centre))
     (box_drift g.S.Scale.PI_HI c.args.place) (box_drift_is g.S.Scale.PI_HI c.args.place r c.square.ensures.radius c.square.ensures.denominator)
 

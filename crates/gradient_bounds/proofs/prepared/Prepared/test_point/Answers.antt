@@ -36,11 +36,13 @@ each_reaches-requires-clause-uppers g c =
 pub each_reaches-requires-clause-lowers : goal.each_reaches-requires-clause-lowers
 each_reaches-requires-clause-lowers g c =
     let i = c.self.inside in
-    numbers_low g.S.Scale.BITS g.S.Scale.LOW_BITS g.S.Scale.HIGH_BITS g.S.Scale.PI_LO g.S.Scale.PI_HI (scale g) i.word i.functions i.most i.point i.table.items
+    numbers_low g.S.Scale.BITS g.S.Scale.LOW_BITS g.S.Scale.HIGH_BITS g.S.Scale.PI_LO g.S.Scale.PI_HI
+    (scale g) i.word i.functions i.most i.point i.table.items
     i.uppers.items i.lowers.items c.deref.result.now c.deref-2.result.now c.self.invariant c.deref.ensures.value c.deref-2.ensures.value
 
 is : (g : given.Over) (c : goal.After-each_reaches g)
-    → IsEachTest g.S.Scale.BITS g.S.Scale.LOW_BITS g.S.Scale.HIGH_BITS g.S.Scale.PI_HI c.self.inside.functions c.deref.result.now c.deref-2.result.now c.point.result
+    → IsEachTest g.S.Scale.BITS g.S.Scale.LOW_BITS g.S.Scale.HIGH_BITS g.S.Scale.PI_HI c.self.inside.functions c.deref.result.now
+    c.deref-2.result.now c.point.result
     no_drift c.move_to.new.self
 is g c =
     let i = c.self.inside in
@@ -48,7 +50,8 @@ is g c =
     let near = c.point.ensures.neighbourhood in
     each_test g.S.Scale.BITS g.S.Scale.LOW_BITS g.S.Scale.HIGH_BITS g.S.Scale.PI_LO g.S.Scale.PI_HI (scale g) i.word i.functions i.most i.point i.table.items
     i.uppers.items i.lowers.items c.deref.result.now c.deref-2.result.now c.self.invariant c.deref.ensures.value c.deref-2.ensures.value c.move_to.new.self
-    c.self.view_is c.args.x c.args.y c.move_to.ensures.point r near (ap (λ (b : Ball). b.x) c.point.ensures.ball) (ap (λ (b : Ball). b.y) c.point.ensures.ball)
+    c.self.view_is c.args.x c.args.y c.move_to.ensures.point r near (ap (λ (b : Ball). b.x) c.point.ensures.ball) (ap (λ
+    (b : Ball). b.y) c.point.ensures.ball)
     no_drift (no_drift_is g.S.Scale.PI_HI r c.point.ensures.radius near.angles.positive)
 
 pub returns-clause-decided : goal.returns-clause-decided
