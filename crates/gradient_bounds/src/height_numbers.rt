@@ -68,7 +68,11 @@ pub fn number_uppers(
     ensures { AreUppers functions.now table.now numbers.new }
 {
     for i in 0..functions.letters() {
-        numbers[i as usize] = number_of(functions.upper_height(i + 1).terms(), places.row(i), table);
+        numbers[i as usize] = number_of(
+            functions.upper_height(i + 1).terms(),
+            places.row(i),
+            table,
+        );
     }
 }
 
@@ -85,7 +89,11 @@ pub fn number_lowers(
     ensures { AreLowers functions.now table.now numbers.new }
 {
     for i in 0..functions.letters() {
-        numbers[i as usize] = number_of(functions.lower_height(i + 1).terms(), places.row(i), table);
+        numbers[i as usize] = number_of(
+            functions.lower_height(i + 1).terms(),
+            places.row(i),
+            table,
+        );
     }
 }
 

@@ -15,7 +15,11 @@ pub struct Places {
 
 impl Places {
     /// Those of the upper heights.
-    pub fn of_uppers(alloc: Global, functions: &Functions, table: &[SineLow]) -> Result<Places, OutOfMemory> {
+    pub fn of_uppers(
+        alloc: Global,
+        functions: &Functions,
+        table: &[SineLow],
+    ) -> Result<Places, OutOfMemory> {
         let mut rows = Vec::new(alloc);
         for i in 0..functions.letters() {
             let row = places_of(alloc, functions.upper_height(i + 1).terms(), table)?;
@@ -25,7 +29,11 @@ impl Places {
     }
 
     /// Those of the lower heights.
-    pub fn of_lowers(alloc: Global, functions: &Functions, table: &[SineLow]) -> Result<Places, OutOfMemory> {
+    pub fn of_lowers(
+        alloc: Global,
+        functions: &Functions,
+        table: &[SineLow],
+    ) -> Result<Places, OutOfMemory> {
         let mut rows = Vec::new(alloc);
         for i in 0..functions.letters() {
             let row = places_of(alloc, functions.lower_height(i + 1).terms(), table)?;

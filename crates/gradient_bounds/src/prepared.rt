@@ -141,8 +141,18 @@ impl<S: Scale> Prepared<S> {
         let at = over_one_denominator(x, y);
         fill::<S>(&mut self.table, &at);
         self.sines = self.sines.saturating_add(self.table.len() as u64);
-        number_uppers(&mut self.uppers, &self.functions, &self.upper_places, &self.table);
-        number_lowers(&mut self.lowers, &self.functions, &self.lower_places, &self.table);
+        number_uppers(
+            &mut self.uppers,
+            &self.functions,
+            &self.upper_places,
+            &self.table,
+        );
+        number_lowers(
+            &mut self.lowers,
+            &self.functions,
+            &self.lower_places,
+            &self.table,
+        );
         self.point = Some((x, y));
     }
 

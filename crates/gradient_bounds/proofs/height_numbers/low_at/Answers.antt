@@ -1,5 +1,4 @@
 use Rattle.std.proofs.Common.{◌≡◌, ◌<◌, length, slice_index_or, pos, rules}
-use Rattle.exp_sums.specs.declared.direction.Dir.{Dir}
 use Rattle.gradient_bounds.specs.declared.sine_low.SineLow.{SineLow}
 use Rattle.gradient_bounds.proofs.Sums.{low_read}
 use Rattle.gradient_bounds.proofs.height_numbers.low_at.Goals as goal

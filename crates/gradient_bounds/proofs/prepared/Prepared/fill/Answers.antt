@@ -27,28 +27,28 @@ number_uppers-requires-clause-rising g c =
     let i = c.self.inside in
     filled_rising i.word i.table.items c.fill.new.table c.deref.result.now _ i.table.len
     (c.fill.ensures.directions ∙ ap (λ (es : List SineLow). map (λ (e : SineLow). e.dir) es) c.deref_mut.ensures.value)
-    c.self.invariant.directions i.table.ok.0 c.deref.ensures.value
+    c.self.invariant.directions (sym i.table.ok.0) c.deref.ensures.value
 
 pub number_uppers-requires-clause-small : goal.number_uppers-requires-clause-small
 number_uppers-requires-clause-small g c =
     let i = c.self.inside in
     filled_small i.table.items c.fill.new.table c.deref.result.now _ i.table.len
     (c.fill.ensures.directions ∙ ap (λ (es : List SineLow). map (λ (e : SineLow). e.dir) es) c.deref_mut.ensures.value)
-    i.table.ok.0 c.fill.ensures.small c.deref.ensures.value
+    (sym i.table.ok.0) c.fill.ensures.small c.deref.ensures.value
 
 pub number_lowers-requires-clause-rising : goal.number_lowers-requires-clause-rising
 number_lowers-requires-clause-rising g c =
     let i = c.self.inside in
     filled_rising i.word i.table.items c.fill.new.table c.deref-2.result.now _ i.table.len
     (c.fill.ensures.directions ∙ ap (λ (es : List SineLow). map (λ (e : SineLow). e.dir) es) c.deref_mut.ensures.value)
-    c.self.invariant.directions i.table.ok.0 c.deref-2.ensures.value
+    c.self.invariant.directions (sym i.table.ok.0) c.deref-2.ensures.value
 
 pub number_lowers-requires-clause-small : goal.number_lowers-requires-clause-small
 number_lowers-requires-clause-small g c =
     let i = c.self.inside in
     filled_small i.table.items c.fill.new.table c.deref-2.result.now _ i.table.len
     (c.fill.ensures.directions ∙ ap (λ (es : List SineLow). map (λ (e : SineLow). e.dir) es) c.deref_mut.ensures.value)
-    i.table.ok.0 c.fill.ensures.small c.deref-2.ensures.value
+    (sym i.table.ok.0) c.fill.ensures.small c.deref-2.ensures.value
 
 pub invariant_of-self : goal.invariant_of-self
 invariant_of-self g c =
