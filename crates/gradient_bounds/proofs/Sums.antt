@@ -18,7 +18,9 @@ use Rattle.rat_core.proofs.Order.{int_le}
 use Rattle.edge_words.specs.Letters.{IsPlace}
 use Rattle.exp_sums.specs.declared.direction.Dir.{Dir}
 use Rattle.exp_sums.specs.declared.terms.Term.{Term}
-use Rattle.exp_sums.specs.Terms.{is_same_dir}
+use Rattle.std.specs.declared.cmp.Ordering.TheVariants.{Less, Equal}
+use Rattle.exp_sums.specs.Terms.{dir_cmp, is_same_dir}
+use Rattle.exp_sums.proofs.Totals.{same_dir}
 use Rattle.exp_sums.specs.FormalPoint.{FormalPoint, terms, term_neg, zero_dir, ◌+ₚ◌, ◌-ₚ◌, negative}
 use Rattle.exp_sums.specs.Limits.{terms_weight, IsNear}
 use Rattle.exp_sums.specs.Weigh.{weigh_terms}
@@ -41,7 +43,7 @@ use Rattle.defining_functions.specs.Heights.{upper_height, lower_height}
 use Rattle.defining_functions.proofs.Differences.{function_difference}
 use Rattle.gradient_bounds.specs.declared.sine_low.SineLow.{SineLow}
 use Rattle.gradient_bounds.specs.Angles.{value_of_terms}
-use Rattle.gradient_bounds.specs.Table.{IsTableOf, IsLowAt, low_in, number_in, bounds_in}
+use Rattle.gradient_bounds.specs.Table.{IsRising, IsTableOf, IsLowAt, low_in, number_in, bounds_in}
 use Rattle.gradient_bounds.specs.Kept.{IsSmallEntry}
 
 -- ---- what the table says of a direction
@@ -61,6 +63,34 @@ low_small (e ∷ es) d h = by_test (is_same_dir e.dir d) (All-head IsSmallEntry 
     by_test : (b : Bool) → unsigned_abs e.low ≤ 2 ^ 62 → unsigned_abs (low_in es d) ≤ 2 ^ 62 → unsigned_abs (if b then e.low else low_in es d) ≤ 2 ^ 62
     by_test true here later = here
     by_test false here later = later
+
+-- where the directions rise, an entry's number is what the table says of its direction
+pub low_at_place : (table : List SineLow) (d : Dir) (i : ℕ) (x : SineLow) → IsRising table → i < length table → (get_or table i x).dir ≡ d
+    → (get_or table i x).low ≡ low_in table d
+low_at_place [] d i x rising below is = absurd (omega (arith, below))
+low_at_place (e ∷ es) d zero x rising below is = by_test (is_same_dir e.dir d) ((is_same_dir-Decides e.dir d).1 is)
+  where
+    by_test : (b : Bool) → b ≡ true → e.low ≡ (if b then e.low else low_in es d)
+    by_test b holds = rw holds refl
+low_at_place (e ∷ es) d (suc i) x rising below is =
+    by_test (is_same_dir e.dir d) refl (low_at_place es d i x (λ j k y lt in_range. rising (suc j) (suc k) y (omega (arith, lt)) (omega (arith, in_range))) (omega (arith, below)) is)
+  where
+    by_test : (b : Bool) → is_same_dir e.dir d ≡ b → (get_or es i x).low ≡ low_in es d → (get_or es i x).low ≡ (if b then e.low else low_in es d)
+    by_test false apart later = later
+    by_test true holds later =
+        let same : e.dir ≡ d = (is_same_dir-Decides e.dir d).0 holds in
+        let less : dir_cmp e.dir (get_or es i x).dir ≡ Less = rising 0 (suc i) x (omega arith) below in
+        let equal : dir_cmp d d ≡ Equal = same_dir d in
+        let less' : dir_cmp d d ≡ Less = subst₂ (λ a b. dir_cmp a b ≡ Less) same is less in
+        let clash : Less ≡ Equal = sym less' ∙ equal in
+        cc
+
+-- the same as the machine reads it
+pub low_read : (table : List SineLow) (d : Dir) (i : ℕ) (x : SineLow) → IsRising table → All IsSmallEntry table → i < length table → (get_or table i x).dir ≡ d
+    → to_z w128 (of_z w128 (get_or table i x).low) ≡ low_in table d
+low_read table d i x rising small below is =
+    let size = (All-get_or IsSmallEntry table i x below small).low in
+    to_z-of_z w128 (get_or table i x).low (fits_signed_from_abs w128 (get_or table i x).low (omega (arith, size))) ∙ low_at_place table d i x rising below is
 
 -- from a number to 256 more
 abbrev pub from_low : ℤ → Ends

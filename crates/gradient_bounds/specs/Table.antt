@@ -45,9 +45,13 @@ pub record IsDirOfHeight (w : List ℕ) (d : Dir) : Type 0 where
   pub is_corner : IsPlace w corner
   pub has : HasDir (upper_height shift w corner) d ⊎ HasDir (lower_height shift w corner) d
 
--- the directions rise by m and then n, so each stands once, and they are those of the heights' terms
+-- the directions rise by m and then n, so each stands once
+abbrev pub IsRising : List SineLow → Type 0
+IsRising table = AllPairs (λ e e'. dir_cmp e.dir e'.dir ≡ Less) table
+
+-- the directions rise, and are those of the heights' terms
 pub record IsTableOf (w : List ℕ) (table : List SineLow) : Type 0 where
-  pub rising : AllPairs (λ e e'. dir_cmp e.dir e'.dir ≡ Less) table
+  pub rising : IsRising table
   pub only : All (λ e. IsDirOfHeight w e.dir) table
   pub all : (d : Dir) → IsDirOfHeight w d → Any (λ e. e.dir ≡ d) table
 

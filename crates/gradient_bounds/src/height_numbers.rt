@@ -4,9 +4,10 @@ ghost use Rattle.std.specs.List.{All};
 ghost use Rattle.ring_solver.specs.Whole.{ℤ_ring, ℤ_image};
 ghost use Rattle.exp_sums.specs.Limits.{terms_weight};
 ghost use Rattle.exp_sums.specs.Weigh.{weigh_terms};
-ghost use Rattle.gradient_bounds.specs.Table.{low_in};
+ghost use Rattle.gradient_bounds.specs.Table.{IsRising, low_in};
 ghost use Rattle.gradient_bounds.specs.Kept.{IsSmallEntry, AreUppers, AreLowers};
 
+use crate::places::Places;
 use crate::sine_low::SineLow;
 use defining_functions::Functions;
 use exp_sums::{Dir, Term};
@@ -24,39 +25,75 @@ fn low_of(table: &[SineLow], dir: Dir) -> i128
     0
 }
 
-/// The sum, over the terms, of the coefficient times the table's number of the direction.
-fn number_of(terms: &[Term], table: &[SineLow]) -> i128
+/// The same, where the entry is looked for at `place` first.
+fn low_at(table: &[SineLow], place: usize, dir: Dir) -> i128
+    requires rising { IsRising table.now }
+    requires small { All IsSmallEntry table.now }
+    ensures { result ≡ low_in table.now dir }
+{
+    if place < table.len() && table[place].dir == dir {
+        return table[place].low;
+    }
+    low_of(table, dir)
+}
+
+/// The sum, over the terms, of the coefficient times the table's number of the direction. The entries are looked for at
+/// `places` first.
+fn number_of(terms: &[Term], places: &[usize], table: &[SineLow]) -> i128
+    requires rising { IsRising table.now }
     requires light { terms_weight terms.now ≤ 16384 }
     requires small { All IsSmallEntry table.now }
     ensures is { result ≡ weigh_terms ℤ_ring ℤ_image (low_in table.now) terms.now }
     ensures size { unsigned_abs result ≤ 2 ^ 76 }
 {
     let mut total = 0;
+    let mut places = places.iter();
     for term in terms {
-        total += i128::from(term.c) * low_of(table, term.dir);
+        let place = places.next().copied().unwrap_or(0);
+        total += i128::from(term.c) * low_at(table, place, term.dir);
     }
     total
 }
 
 /// Computes the numbers of the upper heights.
-pub fn number_uppers(numbers: &mut [i128], functions: &Functions, table: &[SineLow])
+pub fn number_uppers(
+    numbers: &mut [i128],
+    functions: &Functions,
+    places: &Places,
+    table: &[SineLow],
+)
+    requires rising { IsRising table.now }
     requires count { length numbers.old ≡ length functions.now }
     requires small { All IsSmallEntry table.now }
     ensures { AreUppers functions.now table.now numbers.new }
 {
     for i in 0..functions.letters() {
-        numbers[i as usize] = number_of(functions.upper_height(i + 1).terms(), table);
+        numbers[i as usize] = number_of(
+            functions.upper_height(i + 1).terms(),
+            places.row(i),
+            table,
+        );
     }
 }
 
 /// Computes the numbers of the lower heights.
-pub fn number_lowers(numbers: &mut [i128], functions: &Functions, table: &[SineLow])
+pub fn number_lowers(
+    numbers: &mut [i128],
+    functions: &Functions,
+    places: &Places,
+    table: &[SineLow],
+)
+    requires rising { IsRising table.now }
     requires count { length numbers.old ≡ length functions.now }
     requires small { All IsSmallEntry table.now }
     ensures { AreLowers functions.now table.now numbers.new }
 {
     for i in 0..functions.letters() {
-        numbers[i as usize] = number_of(functions.lower_height(i + 1).terms(), table);
+        numbers[i as usize] = number_of(
+            functions.lower_height(i + 1).terms(),
+            places.row(i),
+            table,
+        );
     }
 }
 

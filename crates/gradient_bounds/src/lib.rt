@@ -16,6 +16,7 @@ mod height_numbers;
 pub mod laws;
 mod most;
 mod neighbourhood;
+mod places;
 mod prepared;
 mod sine_low;
 mod table;

@@ -28,6 +28,7 @@ use crate::filled::is_at;
 use crate::height_numbers::{number_lowers, number_uppers, zeros};
 use crate::most::{Most, most_of};
 use crate::neighbourhood::{point, square};
+use crate::places::Places;
 use crate::sine_low::SineLow;
 use crate::table::fill;
 use defining_functions::Functions;
@@ -51,6 +52,9 @@ pub struct Prepared<S: Scale> {
     /// Where the table was filled last.
     point: Option<(Frac, Frac)>,
     table: Vec<SineLow>,
+    /// Where the directions of the upper heights stand in the table, and those of the lower ones.
+    upper_places: Places,
+    lower_places: Places,
     /// The numbers of the upper heights by the table, for each edge.
     uppers: Vec<i128>,
     /// The numbers of the lower heights.
@@ -87,16 +91,20 @@ impl<S: Scale> Prepared<S> {
         let unfolding = Unfolding::of(alloc, word)?;
         let functions = Functions::of(alloc, &unfolding)?;
         let table = blank_table(alloc, &functions)?;
+        let upper_places = Places::of_uppers(alloc, &functions, &table)?;
+        let lower_places = Places::of_lowers(alloc, &functions, &table)?;
         let mut uppers = zeros(alloc, functions.letters())?;
         let mut lowers = zeros(alloc, functions.letters())?;
-        number_uppers(&mut uppers, &functions, &table);
-        number_lowers(&mut lowers, &functions, &table);
+        number_uppers(&mut uppers, &functions, &upper_places, &table);
+        number_lowers(&mut lowers, &functions, &lower_places, &table);
         Ok(Prepared {
             word: word.copied(),
             most: most_of(&functions),
             functions,
             point: None,
             table,
+            upper_places,
+            lower_places,
             uppers,
             lowers,
             sines: 0,
@@ -133,8 +141,18 @@ impl<S: Scale> Prepared<S> {
         let at = over_one_denominator(x, y);
         fill::<S>(&mut self.table, &at);
         self.sines = self.sines.saturating_add(self.table.len() as u64);
-        number_uppers(&mut self.uppers, &self.functions, &self.table);
-        number_lowers(&mut self.lowers, &self.functions, &self.table);
+        number_uppers(
+            &mut self.uppers,
+            &self.functions,
+            &self.upper_places,
+            &self.table,
+        );
+        number_lowers(
+            &mut self.lowers,
+            &self.functions,
+            &self.lower_places,
+            &self.table,
+        );
         self.point = Some((x, y));
     }
 

@@ -1,11 +1,54 @@
-use Rattle.std.proofs.Common.{◌≡◌, ◌∙◌, sym, ap, subst, subst₂, length, map, drop, List, arith}
+use Rattle.std.proofs.Common.{◌≡◌, ◌∙◌, sym, ap, subst, subst₂, length, map, take, drop, ◌++◌, List, ℕ, arith}
 use Rattle.std.proofs.lemmas.List.{take_at, length-map}
 use Rattle.std.specs.List.{All}
 use Rattle.gradient_bounds.specs.declared.sine_low.SineLow.{SineLow}
-use Rattle.gradient_bounds.specs.Table.{IsLowAt}
-use Rattle.gradient_bounds.specs.Kept.{AreUppers, AreLowers}
-use Rattle.gradient_bounds.proofs.Tests.{filled_again}
+use Rattle.gradient_bounds.specs.Table.{IsRising, IsTableOf, IsLowAt}
+use Rattle.gradient_bounds.specs.Kept.{IsSmallEntry, AreUppers, AreLowers}
+use Rattle.gradient_bounds.proofs.Tests.{same_table, filled_again}
 use Rattle.gradient_bounds.proofs.prepared.Prepared.fill.Goals as goal
+
+-- what `number_uppers` and `number_lowers` ask of the table that was filled
+filled_rising : (w : List ℕ) (old new seen rest : List SineLow) (n : ℕ) → map (λ (e : SineLow). e.dir) new ≡ map (λ (e : SineLow). e.dir) old → IsTableOf w old
+    → length old ≡ n → seen ≡ take n (new ++ rest) → IsRising seen
+filled_rising w old new seen rest n same table count is =
+    let len : length new ≡ n =
+    omega (arith, sym (length-map new (λ (e : SineLow). e.dir)), ap length same, length-map old (λ (e : SineLow). e.dir), count) in
+    subst IsRising (sym (is ∙ take_at new rest n len)) (same_table w old new same table).rising
+
+filled_small : (old new seen rest : List SineLow) (n : ℕ) → map (λ (e : SineLow). e.dir) new ≡ map (λ (e : SineLow). e.dir) old
+    → length old ≡ n → All IsSmallEntry new → seen ≡ take n (new ++ rest) → All IsSmallEntry seen
+filled_small old new seen rest n same count small is =
+    let len : length new ≡ n =
+    omega (arith, sym (length-map new (λ (e : SineLow). e.dir)), ap length same, length-map old (λ (e : SineLow). e.dir), count) in
+    subst (All IsSmallEntry) (sym (is ∙ take_at new rest n len)) small
+
+pub number_uppers-requires-clause-rising : goal.number_uppers-requires-clause-rising
+number_uppers-requires-clause-rising g c =
+    let i = c.self.inside in
+    filled_rising i.word i.table.items c.fill.new.table c.deref.result.now _ i.table.len
+    (c.fill.ensures.directions ∙ ap (λ (es : List SineLow). map (λ (e : SineLow). e.dir) es) c.deref_mut.ensures.value)
+    c.self.invariant.directions (sym i.table.ok.0) c.deref.ensures.value
+
+pub number_uppers-requires-clause-small : goal.number_uppers-requires-clause-small
+number_uppers-requires-clause-small g c =
+    let i = c.self.inside in
+    filled_small i.table.items c.fill.new.table c.deref.result.now _ i.table.len
+    (c.fill.ensures.directions ∙ ap (λ (es : List SineLow). map (λ (e : SineLow). e.dir) es) c.deref_mut.ensures.value)
+    (sym i.table.ok.0) c.fill.ensures.small c.deref.ensures.value
+
+pub number_lowers-requires-clause-rising : goal.number_lowers-requires-clause-rising
+number_lowers-requires-clause-rising g c =
+    let i = c.self.inside in
+    filled_rising i.word i.table.items c.fill.new.table c.deref-2.result.now _ i.table.len
+    (c.fill.ensures.directions ∙ ap (λ (es : List SineLow). map (λ (e : SineLow). e.dir) es) c.deref_mut.ensures.value)
+    c.self.invariant.directions (sym i.table.ok.0) c.deref-2.ensures.value
+
+pub number_lowers-requires-clause-small : goal.number_lowers-requires-clause-small
+number_lowers-requires-clause-small g c =
+    let i = c.self.inside in
+    filled_small i.table.items c.fill.new.table c.deref-2.result.now _ i.table.len
+    (c.fill.ensures.directions ∙ ap (λ (es : List SineLow). map (λ (e : SineLow). e.dir) es) c.deref_mut.ensures.value)
+    (sym i.table.ok.0) c.fill.ensures.small c.deref-2.ensures.value
 
 pub invariant_of-self : goal.invariant_of-self
 invariant_of-self g c =

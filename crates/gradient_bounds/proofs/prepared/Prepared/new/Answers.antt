@@ -29,6 +29,18 @@ returns-in_err-table-clause-unstable g c =
     let refused = err_from_is_err_and c.from_residual-in_err-table.result c.from_residual-in_err-table.ensures.1 in
     refused_by_memory c.args.word.now c.from_residual-in_err-table.result refused.0 stable refused.1 refused.2
 
+pub returns-in_err-upper_places-clause-unstable : goal.returns-in_err-upper_places-clause-unstable
+returns-in_err-upper_places-clause-unstable g c =
+    let stable : IsStable c.args.word.now = c.is_stable.ensures.0 c.if-not-is_stable.false in
+    let refused = err_from_is_err_and c.from_residual-in_err-upper_places.result c.from_residual-in_err-upper_places.ensures.1 in
+    refused_by_memory c.args.word.now c.from_residual-in_err-upper_places.result refused.0 stable refused.1 refused.2
+
+pub returns-in_err-lower_places-clause-unstable : goal.returns-in_err-lower_places-clause-unstable
+returns-in_err-lower_places-clause-unstable g c =
+    let stable : IsStable c.args.word.now = c.is_stable.ensures.0 c.if-not-is_stable.false in
+    let refused = err_from_is_err_and c.from_residual-in_err-lower_places.result c.from_residual-in_err-lower_places.ensures.1 in
+    refused_by_memory c.args.word.now c.from_residual-in_err-lower_places.result refused.0 stable refused.1 refused.2
+
 pub returns-in_err-uppers-clause-unstable : goal.returns-in_err-uppers-clause-unstable
 returns-in_err-uppers-clause-unstable g c =
     let stable : IsStable c.args.word.now = c.is_stable.ensures.0 c.if-not-is_stable.false in
@@ -55,8 +67,8 @@ invariant_of-result g c =
     prepared_from g.S.Scale.BITS w c.copied.result c.in_ok-unfolding.unfolding f c.most_of.result c.in_ok-table.table.items _ _ c.number_uppers.new.numbers
     c.number_lowers.new.numbers c.copied.ensures c.in_ok-unfolding.ensures.word c.in_ok-functions.ensures.word
     (subst IsWord c.unfolding.view_is c.unfolding.invariant.word) stable c.most_of.ensures c.in_ok-table.ensures.directions c.in_ok-table.ensures.small
-    (subst (λ es. AreUppers f es c.number_uppers.new.numbers) c.deref.ensures.value c.number_uppers.ensures)
-    (subst (λ es. AreLowers f es c.number_lowers.new.numbers) c.deref-2.ensures.value c.number_lowers.ensures)
+    (subst (λ es. AreUppers f es c.number_uppers.new.numbers) c.deref-3.ensures.value c.number_uppers.ensures)
+    (subst (λ es. AreLowers f es c.number_lowers.new.numbers) c.deref-4.ensures.value c.number_lowers.ensures)
     (take_at c.number_uppers.new.numbers (drop (length c.number_uppers.new.numbers) uppers.items) uppers.len us_len)
     (take_at c.number_lowers.new.numbers (drop (length c.number_lowers.new.numbers) lowers.items) lowers.len ls_len)
 
