@@ -1,0 +1,16 @@
+//! The search for words that have a corridor in one triangle.
+//!
+//! The one contract: `search` lists canonical stable words with a corridor in the triangle, and leaves none out that is
+//! clear there with the wider slack of the fine scale.
+#![tactic(auto)]
+
+mod backwards;
+mod balance;
+mod candidate;
+mod listing;
+mod point;
+mod prefix;
+mod walk;
+
+pub use listing::search;
+pub use walk::words;
