@@ -21,7 +21,7 @@ unfolding IsStrictlySortedBy
 sorted_push c [] x sorted after = (tt, tt)
 sorted_push c (y ∷ ys) x sorted after = (
   recursion_from_All (λ z. c y z ≡ Less) (ys ++ x ∷ [])
-  (All-push (λ z. c y z ≡ Less) ys x (All-from_recursion (λ z. c y z ≡ Less) ys sorted.0) (All-head (λ z. c z x ≡ Less) y ys after)),
+      (All-push (λ z. c y z ≡ Less) ys x (All-from_recursion (λ z. c y z ≡ Less) ys sorted.0) (All-head (λ z. c z x ≡ Less) y ys after)),
   sorted_push c ys x sorted.1 (All-tail (λ z. c z x ≡ Less) y ys after),
 )
 

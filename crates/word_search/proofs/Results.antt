@@ -41,18 +41,18 @@ result_at_start x y = record {
 
 -- before the first word of a length
 pub none_tested : (n : ℕ) (w : List ℕ) → (length w < n) ↔ IsTested n [] w
-none_tested n w = (λ h. inl h, λ h. elim h [ | inl short ↦ short | inr tested ↦ absurd (omega (arith, tested.1.1)) ])
+none_tested n w = (λ h. inl h, λ h. elim h [ inl short ↦ short | inr tested ↦ absurd (omega (arith, tested.1.1)) ])
 
 fewer_or_as_many : (n : ℕ) (w : List ℕ) → n % 2 ≡ 0 → IsCanonicalStable w → length w < n + 2 → (length w < n) ⊎ (length w ≡ n)
 fewer_or_as_many n w even of h =
     let whole = of.is_word.even_length.even in
-    elim (cases_lt (length w) n) [ | inl short ↦ inl short | inr long ↦ inr (omega arith) ]
+    elim (cases_lt (length w) n) [ inl short ↦ inl short | inr long ↦ inr (omega arith) ]
 
 -- after the last
 pub all_tested : (n : ℕ) (vs : List (List ℕ)) (w : List ℕ) → n % 2 ≡ 0 → IsListOfWords n vs → IsCanonicalStable w → IsTested n vs w ↔ (length w < n + 2)
 all_tested n vs w even list of = (
-  λ h. elim h [ | inl short ↦ omega arith | inr tested ↦ omega (arith, tested.0) ],
-  λ h. elim (fewer_or_as_many n w even of h) [ | inl short ↦ inl short | inr same ↦ inr (same, list.complete w (record { is = of; count = same })) ],
+  λ h. elim h [ inl short ↦ omega arith | inr tested ↦ omega (arith, tested.0) ],
+  λ h. elim (fewer_or_as_many n w even of h) [ inl short ↦ inl short | inr same ↦ inr (same, list.complete w (record { is = of; count = same })) ],
 )
 
 -- up to a bound
@@ -82,7 +82,7 @@ tested_before n vs rest v y list tested =
     ]
 
 tested_more : (n : ℕ) (vs : List (List ℕ)) (v y : List ℕ) → IsTested n vs y → IsTested n (vs ++ v ∷ []) y
-tested_more n vs v y tested = elim tested [ | inl short ↦ inl short | inr same ↦ inr (same.0, Contains-append_left vs (v ∷ []) y same.1) ]
+tested_more n vs v y tested = elim tested [ inl short ↦ inl short | inr same ↦ inr (same.0, Contains-append_left vs (v ∷ []) y same.1) ]
 
 only : (v y : List ℕ) → Contains (v ∷ []) y → v ≡ y
 only v y has = let e : has.0 ≡ 0 = omega (arith, has.1) in sym (ap (λ k. get_or (v ∷ []) k y) e) ∙ has.2

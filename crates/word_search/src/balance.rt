@@ -5,12 +5,7 @@ ghost use Rattle.edge_words.specs.Letters.{IsLetter};
 ghost use Rattle.word_search.specs.Prefixes.{AreCounts, excess};
 
 /// The counts with one more letter, which comes after `len` others.
-pub(crate) fn counted(
-    odd: [u32; 4],
-    even: [u32; 4],
-    len: usize,
-    letter: u8,
-) -> ([u32; 4], [u32; 4])
+pub(crate) fn counted(odd: [u32; 4], even: [u32; 4], len: usize, letter: u8) -> ([u32; 4], [u32; 4])
     requires letter { IsLetter letter }
     requires few { (slice_index odd letter < 255) × (slice_index even letter < 255) }
     ensures { (p : List ℕ) → length p ≡ len → AreCounts p odd even → AreCounts (p ++ letter ∷ []) result.0 result.1 }

@@ -20,10 +20,12 @@ pub(crate) fn searched(alloc: Global, letters: &[u8]) -> Option<Word>
     let Ok(word) = Word::read(alloc, &buffer[..letters.len()]) else {
         return None;
     };
-    if !word.is_stable() {
+    let stable = word.is_stable();
+    if !stable {
         return None;
     }
-    if !word.is_canonical() {
+    let canonical = word.is_canonical();
+    if !canonical {
         return None;
     }
     Some(word)

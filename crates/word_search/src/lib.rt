@@ -10,6 +10,8 @@ mod candidate;
 mod listing;
 mod point;
 mod prefix;
+#[cfg(test)]
+mod tests;
 mod walk;
 
 pub use listing::search;

@@ -48,7 +48,8 @@ fn pick(
     ensures { IfOk result (λ _. IsSearchResult (value x) (value y) (λ w. length w < count + 2) found.new.items) }
 {
     'word: for word in words(alloc, count)? {
-        if is_open(alloc, &word, x, y)? {
+        let open = is_open(alloc, &word, x, y)?;
+        if open {
             found.push(word)?;
         }
     }

@@ -103,6 +103,10 @@ impl Prefix {
         if letter < least {
             return None;
         }
-        if letter == least { Some(self.border + 1) } else { Some(0) }
+        if letter == least {
+            Some(self.border + 1)
+        } else {
+            Some(0)
+        }
     }
 }

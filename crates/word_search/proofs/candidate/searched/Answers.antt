@@ -20,22 +20,22 @@ returns-in_default c = λ is.
     c.loop-index.index (omega arith) c.loop-index.invariant.written in
     not_refused (take (length c.args.letters.now) c.loop-index.buffer) c.args.letters.now c.in_default.field-0 digits is.is.is_word c.in_default.ensures
 
-pub returns-then-not-is_stable : goal.returns-then-not-is_stable
-returns-then-not-is_stable c = λ is.
+pub returns-then-not-stable : goal.returns-then-not-stable
+returns-then-not-stable c = λ is.
     let digits : take (length c.args.letters.now) c.loop-index.buffer ≡ digits_of c.args.letters.now = all_written c.loop-index.buffer c.args.letters.now
     c.loop-index.index (omega arith) c.loop-index.invariant.written in
     let same : c.in-Ok.word ≡ c.args.letters.now = read_back _ c.in-Ok.word c.args.letters.now digits c.in-Ok.ensures in
-    let stable = c.is_stable.ensures.1 (subst IsStable (sym same) is.is.stable) in
-    let not = c.if-not-is_stable.true in
+    let stable = c.is_stable-stable.ensures.1 (subst IsStable (sym same) is.is.stable) in
+    let not = c.if-not-stable.true in
     cc
 
-pub returns-then-not-is_canonical : goal.returns-then-not-is_canonical
-returns-then-not-is_canonical c = λ is.
+pub returns-then-not-canonical : goal.returns-then-not-canonical
+returns-then-not-canonical c = λ is.
     let digits : take (length c.args.letters.now) c.loop-index.buffer ≡ digits_of c.args.letters.now = all_written c.loop-index.buffer c.args.letters.now
     c.loop-index.index (omega arith) c.loop-index.invariant.written in
     let same : c.in-Ok.word ≡ c.args.letters.now = read_back _ c.in-Ok.word c.args.letters.now digits c.in-Ok.ensures in
-    let canonical = c.is_canonical.ensures.1 (subst (λ (w : List ℕ). IsCanonicalForm w w) (sym same) is.is.canonical) in
-    let not = c.if-not-is_canonical.true in
+    let canonical = c.is_canonical-canonical.ensures.1 (subst (λ (w : List ℕ). IsCanonicalForm w w) (sym same) is.is.canonical) in
+    let not = c.if-not-canonical.true in
     cc
 
 pub returns : goal.returns
@@ -47,8 +47,8 @@ returns c =
       record {
         is = record {
           is_word = subst IsWord same c.in-Ok.ensures.is_word;
-          stable = subst IsStable same (c.is_stable.ensures.0 c.if-not-is_stable.false);
-          canonical = subst (λ (w : List ℕ). IsCanonicalForm w w) same (c.is_canonical.ensures.0 c.if-not-is_canonical.false);
+          stable = subst IsStable same (c.is_stable-stable.ensures.0 c.if-not-stable.false);
+          canonical = subst (λ (w : List ℕ). IsCanonicalForm w w) same (c.is_canonical-canonical.ensures.0 c.if-not-canonical.false);
         };
         count = refl;
       },

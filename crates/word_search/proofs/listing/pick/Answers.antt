@@ -21,18 +21,18 @@ word-preserved-in-Continue-branch-3 c =
       result = subst (λ (ws : List (List ℕ)). IsSearchResult (value c.args.x) (value c.args.y)
           (IsTested c.args.count (c.word.yielded ++ c.in-Some.word ∷ [])) ws) (sym c.in_ok-push.ensures.items)
           (result_picked (value c.args.x) (value c.args.y) c.args.count c.word.yielded c.next.new.self.rest.items c.in-Some.word c.word.found.items list
-          (c.in_ok-is_open.ensures.open (ap Ok c.if-branch.true)) c.word.invariant.result);
+          (c.in_ok-open.ensures.open (ap Ok c.if-open.true)) c.word.invariant.result);
     }
 
-pub word-preserved-else-branch : goal.word-preserved-else-branch
-word-preserved-else-branch c =
+pub word-preserved-else-open : goal.word-preserved-else-open
+word-preserved-else-open c =
     let steps = c.in-Some.ensures.steps in
     let list = subst (λ (ws : List (List ℕ)). IsListOfWords c.args.count (c.word.yielded ++ ws)) steps.0 c.word.invariant.words in
     record {
       left = omega (arith, steps.1, c.word.invariant.left, ap length steps.0);
       words = subst (IsListOfWords c.args.count) (sym (append_assoc c.word.yielded (c.in-Some.word ∷ []) c.next.new.self.rest.items)) list;
       result = result_passed (value c.args.x) (value c.args.y) c.args.count c.word.yielded c.in-Some.word c.word.found.items
-          (c.in_ok-is_open.ensures.not_shown (ap Ok c.if-branch.false)) c.word.invariant.result;
+          (c.in_ok-open.ensures.not_shown (ap Ok c.if-open.false)) c.word.invariant.result;
     }
 
 pub word-preserved : goal.word-preserved
@@ -43,5 +43,5 @@ word-preserved c =
       left = omega (arith, steps.1, c.word.invariant.left, ap length steps.0);
       words = subst (IsListOfWords c.args.count) (sym (append_assoc c.word.yielded (c.in-Some.word ∷ []) c.next.new.self.rest.items)) list;
       result = result_passed (value c.args.x) (value c.args.y) c.args.count c.word.yielded c.in-Some.word c.word.found.items
-          (c.in_ok-is_open.ensures.not_shown (ap Ok c.if-branch.false)) c.word.invariant.result;
+          (c.in_ok-open.ensures.not_shown (ap Ok c.if-open.false)) c.word.invariant.result;
     }

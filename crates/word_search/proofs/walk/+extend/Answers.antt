@@ -23,7 +23,7 @@ returns-in_default t c =
     let len : length p ≡ n = sym c.len.ensures ∙ c.if-len-count.true in
     list_of_same (StartsBefore p) (StartsAtMost p) n c.args.found.now.items
     (λ w is. cut_left n p w (left_whole n p len (λ of. c.in_default.ensures
-        (subst (λ v. IsSearched (length v) v) (sym c.letters.ensures.all) (subst (λ k. IsSearched k p) (sym len) of)))) is)
+    (subst (λ v. IsSearched (length v) v) (sym c.letters.ensures.all) (subst (λ k. IsSearched k p) (sym len) of)))) is)
     c.requires.before
 
 pub letter-init : goal.letter-init
@@ -43,11 +43,11 @@ letter-preserved t c =
     let x = c.letter.letter in
     let short = c.letter.invariant.short in
     let more : IsListOf (StartsAtMost (p ++ x ∷ [])) n c.match-with.found.items =
-        elim c.match-with.branch [
-          | in-Some-with+in_ok-extend w ↦ rw w.found-is (subst (λ q. IsListOf (StartsAtMost q) n w.extend.new.found.items) w.in-Some-with.ensures w.in_ok-extend.ensures)
-          | in_default-with w ↦ rw w.found-is (list_of_same (StartsBefore (p ++ x ∷ [])) (StartsAtMost (p ++ x ∷ [])) n _
-              (λ v is. cut_left n (p ++ x ∷ []) v w.in_default-with.ensures is) c.letter.invariant.before)
-        ] in
+    elim c.match-with.branch [
+      | in-Some-with+in_ok-extend w ↦ rw w.found-is (subst (λ q. IsListOf (StartsAtMost q) n w.extend.new.found.items) w.in-Some-with.ensures w.in_ok-extend.ensures)
+      | in_default-with w ↦ rw w.found-is (list_of_same (StartsBefore (p ++ x ∷ [])) (StartsAtMost (p ++ x ∷ [])) n _
+          (λ v is. cut_left n (p ++ x ∷ []) v w.in_default-with.ensures is) c.letter.invariant.before)
+    ] in
     record {
       short = short;
       before = list_of_same (StartsAtMost (p ++ x ∷ [])) (StartsBefore (p ++ (x + 1) ∷ [])) n c.match-with.found.items
