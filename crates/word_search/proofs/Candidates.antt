@@ -1,7 +1,7 @@
 -- Whole words, as they are written in digits and read again.
 use Rattle.std.proofs.Common.{◌≡◌, ℕ, ◌+◌, ◌<◌, List, [], ◌∷◌, ◌++◌, length, get_or, set, take, sym, ◌∙◌, ap, subst, arith}
 use Rattle.std.proofs.lemmas.List.{map_more, take_all, take_more_set}
-use Rattle.std.specs.Prelude.{Result, Ok, Err}
+use Rattle.std.specs.Prelude.{Ok, Err}
 use Rattle.edge_words.specs.declared.fault.WordFault.{WordFault}
 use Rattle.edge_words.specs.Reading.{Reads, Spells, digits_of}
 use Rattle.edge_words.specs.Word.{IsWord}

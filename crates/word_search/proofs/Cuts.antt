@@ -1,5 +1,5 @@
 -- How a cut moves from one prefix to the next.
-use Rattle.std.proofs.Common.{◌≡◌, ℕ, ◌+◌, ◌-◌, ◌<◌, ◌≤◌, List, [], ◌∷◌, ◌++◌, length, get_or, take, drop, inl, inr, refl, sym, ◌∙◌, ap, subst, arith, IsTrue}
+use Rattle.std.proofs.Common.{◌≡◌, ℕ, ◌+◌, ◌<◌, ◌≤◌, List, [], ◌∷◌, ◌++◌, length, get_or, take, drop, refl, sym, ◌∙◌, ap, subst, arith, IsTrue}
 use Rattle.std.proofs.Common.{length-append, length-take-le}
 use Rattle.std.specs.Prelude.{◌↔◌}
 use Rattle.std.specs.declared.cmp.Ordering.{Ordering}
@@ -11,7 +11,7 @@ use Rattle.std.proofs.lemmas.Cmp.{ranked}
 use Rattle.std.proofs.lemmas.List.{append-nil, length_push, nil_from_length, take-append-drop, take_more}
 use Rattle.edge_words.specs.Letters.{IsLetter}
 use Rattle.edge_words.proofs.Lexicographic.{slice_cmp-append}
-use Rattle.word_search.specs.Cuts.{IsBefore, StartsBefore, StartsAtMost}
+use Rattle.word_search.specs.Cuts.{StartsBefore, StartsAtMost}
 use Rattle.word_search.specs.Prefixes.{IsLeft}
 use Rattle.word_search.specs.Words.{IsSearched}
 use Rattle.word_search.proofs.Orders.{nat_less, kept_before, next_before, last_before}

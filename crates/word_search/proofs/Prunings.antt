@@ -1,5 +1,5 @@
 -- Prefixes with which no canonical word begins.
-use Rattle.std.proofs.Common.{◌≡◌, ℕ, ◌+◌, ◌-◌, ◌%◌, ◌<◌, ◌≤◌, List, [], ◌∷◌, ◌++◌, length, get_or, take, drop, reverse, inl, inr, refl, sym, ◌∙◌, ap, subst, arith, IsTrue}
+use Rattle.std.proofs.Common.{◌≡◌, ℕ, ◌+◌, ◌-◌, ◌%◌, ◌<◌, List, [], ◌∷◌, ◌++◌, length, get_or, take, drop, reverse, inl, inr, refl, sym, ◌∙◌, ap, subst, arith, IsTrue}
 use Rattle.std.proofs.Common.{append_assoc, length-append, length-drop, length-take-le}
 use Rattle.std.specs.Ordering.{nat_cmp, is_le}
 use Rattle.std.specs.Cmp.Lexicographic.{slice_cmp}

@@ -1,9 +1,8 @@
 -- Results of a search, from one length to the next.
-use Rattle.std.proofs.Common.{◌≡◌, ℕ, ◌+◌, ◌%◌, ◌<◌, ◌≤◌, List, [], ◌∷◌, ◌++◌, length, get_or, inl, inr, refl, sym, ◌∙◌, ap, subst, arith, All, Contains}
+use Rattle.std.proofs.Common.{◌≡◌, ℕ, ◌+◌, ◌%◌, ◌<◌, ◌≤◌, List, [], ◌∷◌, ◌++◌, length, get_or, inl, inr, refl, sym, ◌∙◌, ap, subst, arith, Contains}
 use Rattle.std.proofs.Common.{length-append}
 use Rattle.std.specs.Prelude.{◌↔◌, ◌⊎◌}
-use Rattle.std.specs.declared.cmp.Ordering.{Ordering}
-use Rattle.std.specs.declared.cmp.Ordering.TheVariants.{Less, Equal, Greater}
+use Rattle.std.specs.declared.cmp.Ordering.TheVariants.{Less}
 use Rattle.std.specs.Ordering.{nat_cmp, ordering_then}
 use Rattle.std.specs.Cmp.Lexicographic.{slice_cmp}
 use Rattle.std.proofs.lemmas.Bool.{cases_lt}
@@ -11,12 +10,17 @@ use Rattle.std.proofs.lemmas.List.{get_or_at, get_or_append_left}
 use Rattle.std.proofs.lemmas.List.Elements.{All-nil, All-push, Contains-append_left, Contains-append_cases, Contains-push}
 use Rattle.std.proofs.lemmas.Map.Keys.{Less-from_sorted}
 use Rattle.rat_core.specs.Fraction.{ℚ}
-use Rattle.gradient_bounds.specs.Clear.{slack, IsClearAtPoint}
+use Rattle.gradient_bounds.specs.Clear.{IsClearAtPoint}
 use Rattle.gradient_bounds.specs.Corridor.{HasCorridor}
-use Rattle.word_search.specs.Search.{shortlex, IsSearchResult, IsTested}
+use Rattle.gradient_bounds.specs.Slacks.{sure}
+use Rattle.word_search.specs.Search.{shortlex, IsSearchResult}
 use Rattle.word_search.specs.Words.{IsCanonicalStable, IsSearched, IsListOfWords}
 use Rattle.word_search.proofs.Lists.{sorted_none, sorted_push}
 use Rattle.word_search.proofs.Orders.{nat_less, nat_equal}
+
+-- w has fewer than n letters, or n and stands in vs
+abbrev pub IsTested : ℕ → List (List ℕ) → List ℕ → Type 0
+IsTested n vs w = (length w < n) ⊎ ((length w ≡ n) × Contains vs w)
 
 -- the words in question may be stated otherwise
 pub result_same : (x y : ℚ) (P Q : List ℕ → Type 0) (ws : List (List ℕ)) → ((w : List ℕ) → IsCanonicalStable w → P w ↔ Q w)
@@ -117,7 +121,7 @@ result_picked x y n vs rest v ws list corridor is =
     }
 
 -- one that is not, and so is not clear
-pub result_passed : (x y : ℚ) (n : ℕ) (vs : List (List ℕ)) (v : List ℕ) (ws : List (List ℕ)) → ¬ (IsClearAtPoint v x y (slack 40))
+pub result_passed : (x y : ℚ) (n : ℕ) (vs : List (List ℕ)) (v : List ℕ) (ws : List (List ℕ)) → ¬ (IsClearAtPoint v x y sure.gradient)
     → IsSearchResult x y (IsTested n vs) ws → IsSearchResult x y (IsTested n (vs ++ v ∷ [])) ws
 result_passed x y n vs v ws not_clear is = record {
   sorted = is.sorted;
@@ -127,6 +131,6 @@ result_passed x y n vs v ws not_clear is = record {
   left_out = λ w on tested out.
       elim (tested_cases n vs v w tested) [
         | inl old ↦ is.left_out w on old out
-        | inr same ↦ subst (λ u. ¬ (IsClearAtPoint u x y (slack 40))) same not_clear
+        | inr same ↦ subst (λ u. ¬ (IsClearAtPoint u x y sure.gradient)) same not_clear
       ];
 }

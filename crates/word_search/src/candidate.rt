@@ -3,6 +3,7 @@ ghost use Rattle.std.specs.Prelude.{◌≡◌, ◌<◌, ◌≤◌, length, All, 
 ghost use Rattle.edge_words.specs.Letters.{IsLetter};
 ghost use Rattle.word_search.specs.Words.{IsSearched};
 
+use crate::MAX_COUNT;
 use edge_words::Word;
 use std::alloc::Global;
 
@@ -13,7 +14,7 @@ pub(crate) fn searched(alloc: Global, letters: &[u8]) -> Option<Word>
     ensures { MatchOption result (¬ (IsSearched (length letters.now) letters.now))
         (λ word. (word ≡ letters.now) × IsSearched (length letters.now) letters.now) }
 {
-    let mut buffer = [0u8; 24];
+    let mut buffer = [0u8; MAX_COUNT];
     for (index, letter) in letters.iter().enumerate() {
         buffer[index] = *letter + b'0';
     }

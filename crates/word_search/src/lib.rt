@@ -16,3 +16,6 @@ mod walk;
 
 pub use listing::search;
 pub use walk::words;
+
+// The most letters of a word that is searched for.
+const MAX_COUNT: usize = 24;

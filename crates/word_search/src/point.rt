@@ -3,8 +3,9 @@ ghost use Rattle.std.specs.Prelude.{◌≡◌, ◌≤◌, ◌^◌, Ok, true, fal
 ghost use Rattle.edge_words.specs.Stable.{IsStable};
 ghost use Rattle.rat_core.specs.Fraction.{whole, ◌+ℚ◌, ◌<ℚ◌};
 ghost use Rattle.rat_core.specs.Written.{value};
-ghost use Rattle.gradient_bounds.specs.Clear.{slack, IsClearAtPoint};
+ghost use Rattle.gradient_bounds.specs.Clear.{IsClearAtPoint};
 ghost use Rattle.gradient_bounds.specs.Corridor.{HasCorridor};
+ghost use Rattle.gradient_bounds.specs.Slacks.{sure};
 
 use edge_words::Word;
 use gradient_bounds::Prepared;
@@ -21,7 +22,7 @@ pub(crate) fn is_open(alloc: Global, word: &Word, x: Frac, y: Frac) -> Result<bo
     requires x_denominator { x.den ≤ 2 ^ 20 }
     requires y_denominator { y.den ≤ 2 ^ 20 }
     ensures open { result ≡ Ok true → HasCorridor word.now (value x) (value y) }
-    ensures not_shown { result ≡ Ok false → ¬ (IsClearAtPoint word.now (value x) (value y) (slack 40)) }
+    ensures not_shown { result ≡ Ok false → ¬ (IsClearAtPoint word.now (value x) (value y) sure.gradient) }
 {
     match Prepared::<Fine>::new(alloc, word) {
         Ok(mut prepared) => Ok(prepared.test_point(x, y)),

@@ -3,16 +3,17 @@ ghost use Rattle.std.specs.Prelude.{◌≡◌, ◌%◌, ◌<◌, ◌≤◌, ℕ,
 ghost use Rattle.edge_words.specs.Letters.{IsLetter};
 ghost use Rattle.word_search.specs.Prefixes.{IsLeft, IsBorder};
 
+use crate::MAX_COUNT;
 use crate::backwards::is_before_reversed;
 use crate::balance::{counted, is_over};
 use std::marker::Model;
 
-/// At most 24 letters with which a word may begin.
+/// At most `MAX_COUNT` letters with which a word may begin.
 ///
 /// The last `border` letters are the first `border`. `odd` and `even` count each letter at odd and at even places.
 #[derive(Drop)]
 pub(crate) struct Prefix {
-    letters: [u8; 24],
+    letters: [u8; MAX_COUNT],
     len: usize,
     border: usize,
     odd: [u32; 4],
@@ -36,7 +37,7 @@ impl Prefix {
         ensures { result ≡ [] }
     {
         Prefix {
-            letters: [0; 24],
+            letters: [0; MAX_COUNT],
             len: 0,
             border: 0,
             odd: [0; 4],

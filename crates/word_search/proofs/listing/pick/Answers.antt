@@ -1,9 +1,9 @@
-use Rattle.std.proofs.Common.{◌≡◌, ◌+◌, List, ℕ, [], ◌∷◌, ◌++◌, length, sym, ◌∙◌, ap, subst, arith, append_assoc}
+use Rattle.std.proofs.Common.{List, ℕ, [], ◌∷◌, ◌++◌, length, sym, ap, subst, arith, append_assoc}
 use Rattle.std.specs.Prelude.{Ok}
 use Rattle.rat_core.specs.Written.{value}
-use Rattle.word_search.specs.Search.{IsSearchResult, IsTested}
+use Rattle.word_search.specs.Search.{IsSearchResult}
 use Rattle.word_search.specs.Words.{IsListOfWords}
-use Rattle.word_search.proofs.Results.{next_word, result_picked, result_passed}
+use Rattle.word_search.proofs.Results.{IsTested, next_word, result_picked, result_passed}
 use Rattle.word_search.proofs.listing.pick.Goals as goal
 
 pub is_open-requires-clause-stable : goal.is_open-requires-clause-stable

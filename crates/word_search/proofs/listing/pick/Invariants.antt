@@ -1,7 +1,8 @@
 use Rattle.std.proofs.Common.{◌≡◌, ◌++◌, length}
 use Rattle.rat_core.specs.Written.{value}
-use Rattle.word_search.specs.Search.{IsSearchResult, IsTested}
+use Rattle.word_search.specs.Search.{IsSearchResult}
 use Rattle.word_search.specs.Words.{IsListOfWords}
+use Rattle.word_search.proofs.Results.{IsTested}
 use Rattle.word_search.proofs.listing.pick.Given as goal
 
 abbrev pub invariant-word : goal.invariant-word

@@ -1,7 +1,7 @@
-use Rattle.std.proofs.Common.{◌≡◌, ◌<◌, ◌≤◌, List, ℕ, length, sym, subst}
+use Rattle.std.proofs.Common.{◌<◌, List, ℕ, length, sym, subst}
 use Rattle.rat_core.specs.Written.{value}
 use Rattle.word_search.specs.Search.{IsSearchResult}
-use Rattle.word_search.proofs.Results.{result_at_start, result_same, up_to}
+use Rattle.word_search.proofs.Results.{result_at_start}
 use Rattle.word_search.proofs.listing.search.Goals as goal
 
 pub half-init : goal.half-init

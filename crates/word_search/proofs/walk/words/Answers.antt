@@ -1,6 +1,6 @@
 use Rattle.std.proofs.Common.{List, ℕ, [], sym, subst}
-use Rattle.word_search.specs.Cuts.{IsListOf, StartsBefore, StartsAtMost}
-use Rattle.word_search.proofs.Lists.{list_at_start, list_at_end}
+use Rattle.word_search.specs.Cuts.{IsListOf, StartsBefore}
+use Rattle.word_search.proofs.Lists.{list_at_start}
 use Rattle.word_search.proofs.walk.words.Goals as goal
 
 pub extend-requires-clause-before : goal.extend-requires-clause-before

@@ -1,4 +1,4 @@
-use Rattle.std.proofs.Common.{[], ◌∷◌, ◌++◌, sym, subst, arith}
+use Rattle.std.proofs.Common.{[], ◌∷◌, ◌++◌, subst, arith}
 use Rattle.word_search.specs.Prefixes.{IsLeft}
 use Rattle.word_search.proofs.Kept.{left_kept}
 use Rattle.word_search.proofs.prefix.Prefix.border_with.Goals as goal

@@ -1,4 +1,4 @@
-use Rattle.std.proofs.Common.{◌≡◌, ◌+◌, ◌≤◌, ◌<◌, List, ℕ, [], ◌∷◌, ◌++◌, length, reverse, take, sym, ◌∙◌, ap, subst, arith, length-take-le}
+use Rattle.std.proofs.Common.{◌≡◌, ◌+◌, [], ◌∷◌, ◌++◌, length, reverse, take, sym, ◌∙◌, ap, subst, arith, length-take-le}
 use Rattle.std.proofs.lemmas.List.{length_push}
 use Rattle.word_search.specs.Cuts.{IsBefore}
 use Rattle.word_search.specs.Prefixes.{AreCounts, IsBorder}
