@@ -1,10 +1,12 @@
 -- Prefixes with which no canonical word begins.
-use Rattle.std.proofs.Common.{◌≡◌, ℕ, ◌+◌, ◌-◌, ◌%◌, ◌<◌, List, [], ◌∷◌, ◌++◌, length, get_or, take, drop, reverse, inl, inr, refl, sym, ◌∙◌, ap, subst, arith, IsTrue}
+use Rattle.std.proofs.Common.{◌≡◌, ℕ, ◌+◌, ◌-◌, ◌%◌, ◌<◌, List, [], ◌∷◌, ◌++◌, length, get_or, take, drop, reverse, inl, inr, refl, sym, ◌∙◌, ap}
+use Rattle.std.proofs.Common.{subst, arith, IsTrue}
 use Rattle.std.proofs.Common.{append_assoc, length-append, length-drop, length-take-le}
 use Rattle.std.specs.Ordering.{nat_cmp, is_le}
 use Rattle.std.specs.Cmp.Lexicographic.{slice_cmp}
 use Rattle.std.proofs.Math.Nat.{mod-eq_of_lt}
-use Rattle.std.proofs.lemmas.List.{drop-append-le, drop_all, get_or_append_left, get_or_at, length-reverse, length_push, reverse-append, take-append-drop, take-append-le, take_more}
+use Rattle.std.proofs.lemmas.List.{drop-append-le, drop_all, get_or_append_left, get_or_at, length-reverse, length_push, reverse-append}
+use Rattle.std.proofs.lemmas.List.{take-append-drop, take-append-le, take_more}
 use Rattle.edge_words.specs.Canonical.{IsRotation, IsInBracelet, IsAtMost, IsCanonicalForm}
 use Rattle.edge_words.proofs.Lexicographic.{slice_cmp-append}
 use Rattle.edge_words.proofs.Rotations.{IsRotation-swap}

@@ -44,7 +44,8 @@ letter-preserved t c =
     let short = c.letter.invariant.short in
     let more : IsListOf (StartsAtMost (p ++ x ∷ [])) n c.match-with.found.items =
     elim c.match-with.branch [
-      | in-Some-with+in_ok-extend w ↦ rw w.found-is (subst (λ q. IsListOf (StartsAtMost q) n w.extend.new.found.items) w.in-Some-with.ensures w.in_ok-extend.ensures)
+      | in-Some-with+in_ok-extend w ↦ rw w.found-is
+          (subst (λ q. IsListOf (StartsAtMost q) n w.extend.new.found.items) w.in-Some-with.ensures w.in_ok-extend.ensures)
       | in_default-with w ↦ rw w.found-is (list_of_same (StartsBefore (p ++ x ∷ [])) (StartsAtMost (p ++ x ∷ [])) n _
           (λ v is. cut_left n (p ++ x ∷ []) v w.in_default-with.ensures is) c.letter.invariant.before)
     ] in
