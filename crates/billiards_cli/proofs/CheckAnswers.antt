@@ -24,7 +24,7 @@ abbrev pub checked : Grammar
 checked = file_grammar check_claims MAX_NODES
 
 -- a file with a sure tree is not refused
-check_answer_is_due : (input : List ℕ) (ending : Status) (text : List ℕ) → IsCheckAnswer input ending text → IsCheckDue input ending
+pub check_answer_is_due : (input : List ℕ) (ending : Status) (text : List ℕ) → IsCheckAnswer input ending text → IsCheckDue input ending
 check_answer_is_due input status.Done text answer sure = inl refl
 check_answer_is_due input status.OutOfMemory text answer sure = inr refl
 check_answer_is_due input status.Malformed text answer sure =
@@ -43,10 +43,10 @@ check_answer left left' input ending text may_be right read =
 -- a refusal stops reading at its line, and goes with its status
 pub refusal_reads : (line : ℕ) (why : Reason) (left left' : Option (List ℕ)) → StopsAtNamed checked (refused_text line why) left left'
     → ReadsFor (By checked) (ends_check (refusal_status why)) (refused_text line why) left left'
-refusal_reads line NotApart left left' stops = stops
-refusal_reads line NotShown left left' stops = stops
-refusal_reads line Uncovered left left' stops = stops
-refusal_reads line why left left' stops = stops
+refusal_reads line NotApart left left' stops = inl stops
+refusal_reads line NotShown left left' stops = inl stops
+refusal_reads line Uncovered left left' stops = inl stops
+refusal_reads line why left left' stops = inl stops
 
 pub refusal_answer : (input : List ℕ) (line : ℕ) (why : Reason) → IsRefused MAX_NODES line why input
     → IsCheckAnswer input (refusal_status why) (refused_text line why)

@@ -1,5 +1,5 @@
 -- What a reader of its own says of an input.
-use Rattle.std.proofs.Common.{◌≡◌, ℕ, ◌+◌, List, ◌++◌, length, Option, Some, None, Ok, Err, subst, sym, ap, inr, arith, ◌∙◌}
+use Rattle.std.proofs.Common.{◌≡◌, ℕ, ◌+◌, List, ◌++◌, length, Option, Some, None, Ok, Err, subst, sym, ap, inr, arith, ◌∙◌, [], refl}
 use Rattle.std.specs.Io.KnownBytes.{Consumes}
 use Rattle.mcb_ends.specs.Reader.{Reader}
 use Rattle.line_grammar.specs.Input.{MayBe, IsNew}
@@ -14,6 +14,11 @@ use Rattle.cover_checker.specs.Verdicts.{EndsAt}
 use Rattle.billiards_cli.specs.Command.{By}
 use Rattle.billiards_cli.specs.Refusals.{refused_text}
 use Rattle.billiards_cli.specs.Services.{StopsAtNamed, FailsIn}
+
+-- some input that a source may have
+pub some_input : (left : Option (List ℕ)) → (input : List ℕ) × MayBe left input
+some_input None = ([], tt)
+some_input (Some input) = (input, refl)
 
 ends_at : (g : Grammar) (due : g.Due) (old new : Reader) (left left' : Option (List ℕ)) → IsNew old → g.IsReached due
     → StopsAfter (g.lines_before due) old new left left' → EndsAt g due left left'

@@ -3,9 +3,14 @@ pub mod Deciding
 pub mod Headlines
 pub mod Numbers
 pub mod Triangles
+pub mod Jobs
 pub mod WordArguments
 pub mod Inputs
 pub mod WordAnswers
 pub mod CheckAnswers
 pub mod AtAnswers
+pub mod JobAnswers
+pub mod CoverAnswers
+pub mod CoverSizes
+pub mod DemoAnswers
 pub mod OneAnswer

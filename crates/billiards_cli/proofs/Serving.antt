@@ -1,9 +1,9 @@
 -- An answer that was to be written makes up what is said of a run.
 use Rattle.std.proofs.Common.{◌≡◌, ℕ, List, Result, Ok, Err, sym, subst}
-use Rattle.mcb_ends.specs.Bytes.{Writes}
+use Rattle.mcb_ends.specs.Bytes.{AppendsPrefix, Writes}
 use Rattle.mcb_ends.specs.Causes.{HasCause}
 use Rattle.billiards_cli.specs.Command.{Command}
-use Rattle.billiards_cli.specs.Services.{IsAnswer, Serves, status_after}
+use Rattle.billiards_cli.specs.Services.{IsAnswer, BeginsAnswer, Serves, status_after}
 use Rattle.billiards_cli.specs.Streams.{Streams}
 use Rattle.billiards_cli.specs.declared.status.Status.{Status}
 use Rattle.billiards_cli.specs.declared.status.Status.TheVariants.{Done, NotShown, Usage, Malformed, ReadFault, WriteFault, OutOfMemory, Full}
@@ -15,6 +15,20 @@ IsWritten NotShown = Unit {0}
 IsWritten Malformed = Unit {0}
 IsWritten Full = Unit {0}
 IsWritten status = ⊥
+
+-- a right answer of which a prefix was written
+begins : (command : Command) (before after : Streams) (status : Status) (text : List ℕ) → IsAnswer command before.left after.left status text
+    → AppendsPrefix before.written after.written text → BeginsAnswer command before after
+begins command before after status text answer begun = record {
+  input = answer.input;
+  status = status;
+  text = text;
+  may_be = answer.may_be;
+  right = answer.right;
+  due = λ _. answer.due;
+  read = answer.read;
+  begun = begun;
+}
 
 served_after : {T E : Type 0} (command : Command) (before after : Streams) (status : Status) (text : List ℕ) (result : Result T E)
     → IsWritten status → IsAnswer command before.left after.left status text → after.source_faults ≡ before.source_faults
@@ -29,7 +43,7 @@ served_after command before after Malformed text (Ok value) is answer stood writ
 served_after command before after Full text (Ok value) is answer stood writes cause =
     record { leaves = record { text = text; answer = answer; written = writes }; counts = (stood, cause.kept) }
 served_after command before after status text (Err error) is answer stood writes cause =
-    record { leaves = record { status = status; text = text; answer = answer; begun = writes }; counts = (stood, cause.failed) }
+    record { leaves = begins command before after status text answer writes; counts = (stood, cause.failed) }
 served_after command before after Usage text (Ok value) is answer stood writes cause = absurd is
 served_after command before after ReadFault text (Ok value) is answer stood writes cause = absurd is
 served_after command before after WriteFault text (Ok value) is answer stood writes cause = absurd is

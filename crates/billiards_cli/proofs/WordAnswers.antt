@@ -1,5 +1,5 @@
 -- The right answers of `word`.
-use Rattle.std.proofs.Common.{ℕ, List, [], ◌++◌, Option, refl, sym, subst, ◌∙◌, append-nil, inl, inr}
+use Rattle.std.proofs.Common.{ℕ, List, [], Option, refl, sym, subst, ◌∙◌, append-nil, inl, inr}
 use Rattle.edge_words.specs.Stable.{IsStable}
 use Rattle.edge_words.specs.Word.{IsWord}
 use Rattle.unfolding.specs.Shift.{HasShift}

@@ -1,7 +1,6 @@
 -- What stands on the command line.
-use Rattle.std.specs.Prelude.{ℕ, ◌+◌, List, Some, None, decimal, nat_le, nat_lt, ◌&&◌, if◌then◌else◌, Bool, Ok, Err}
+use Rattle.std.specs.Prelude.{ℕ, ◌+◌, List, Some, None, decimal, nat_le, nat_lt, ◌&&◌, if◌then◌else◌, Bool}
 use Rattle.std.specs.declared.option.Option.{Option}
-use Rattle.std.specs.declared.result.Result.{Result}
 use Rattle.std.specs.Str.{bytes_eq}
 use Rattle.std.specs.Str.Parse.{digits_value}
 use Rattle.edge_words.specs.Reading.{Spells, digits_of}
@@ -14,6 +13,11 @@ use Rattle.rational_polygon.specs.declared.TheConstants.{MAX_GRID}
 -- the number whose canonical decimal text this is, where it is at most the bound
 abbrev pub number_up_to : ℕ → List ℕ → Option ℕ
 number_up_to bound text = let n = digits_value 10 text in if nat_le n bound && bytes_eq text (decimal n) then Some n else None
+
+-- the number, where it is at least so much
+abbrev pub at_least : ℕ → Option ℕ → Option ℕ
+at_least low None = None
+at_least low (Some n) = if nat_le low n then Some n else None
 
 -- the angles p / d and q / d, in half turns, at corners 1 and 2
 pub record Angles : Type 0 where

@@ -2,3 +2,6 @@
 pub mod Word
 pub mod Check
 pub mod At
+pub mod Cover
+pub mod Job
+pub mod Demo

@@ -1,14 +1,20 @@
--- How much freedom right answers leave, over the definitions alone.
+-- How much freedom right answers leave, and how those of one command go with those of another, over the definitions alone.
 use Rattle.std.specs.Prelude.{◌≡◌, ◌≢◌, ◌⊎◌, ℕ, List}
 use Rattle.edge_words.specs.Reading.{Spells}
 use Rattle.gradient_bounds.specs.Clear.{IsClearAtPoint}
 use Rattle.gradient_bounds.specs.Corridor.{HasCorridor}
 use Rattle.gradient_bounds.specs.Slacks.{sure}
+use Rattle.covering_file.specs.Header.{IsHeading}
+use Rattle.covering_file.specs.Verdicts.{IsSureFile}
+use Rattle.covering_file.specs.declared.TheConstants.{MAX_NODES}
 use Rattle.billiards_cli.specs.Arguments.{Angles}
+use Rattle.billiards_cli.specs.Jobs.{IsJobNumber, job_heading}
 use Rattle.billiards_cli.specs.Commands.At.{AtTriangle, IsAtAnswer}
+use Rattle.billiards_cli.specs.Commands.Check.{IsCheckAnswer}
+use Rattle.billiards_cli.specs.Commands.Cover.{IsCoverAnswer}
 use Rattle.billiards_cli.specs.Commands.Word.{IsWordAnswer}
 use Rattle.billiards_cli.specs.declared.status.Status.{Status}
-use Rattle.billiards_cli.specs.declared.status.Status.TheVariants.{OutOfMemory}
+use Rattle.billiards_cli.specs.declared.status.Status.TheVariants.{Done, OutOfMemory}
 
 -- two right answers of `word` to one input are one, but for want of memory
 abbrev pub WordAnswerIsOne : Type 0
@@ -27,3 +33,12 @@ abbrev pub AtAnswersDifferBetween : Type 0
 AtAnswersDifferBetween = (argument text text' : List ℕ) (triangle : Angles) (status status' : Status) → IsAtAnswer argument triangle status text
     → IsAtAnswer argument triangle status' text' → status ≢ OutOfMemory → status' ≢ OutOfMemory
     → ((status ≡ status') × (text ≡ text')) ⊎ IsBetween argument triangle
+
+-- Complete is accepted: what `cover` writes where it is done is the text of a file with a sure tree, and `check` accepts it, but for want of memory.
+abbrev pub CompleteIsAccepted : Type 0
+CompleteIsAccepted = (input file : List ℕ) → IsCoverAnswer input Done file → IsSureFile MAX_NODES file
+    × ((status : Status) (line : List ℕ) → IsCheckAnswer file status line → (status ≡ Done) ⊎ (status ≡ OutOfMemory))
+
+-- each generated job is a job
+abbrev pub GeneratedIsJob : Type 0
+GeneratedIsJob = (k : ℕ) → IsJobNumber k → IsHeading (job_heading k)

@@ -3,6 +3,7 @@ pub mod Command
 pub mod Services
 pub mod Arguments
 pub mod Refusals
+pub mod Jobs
 pub mod Commands
 pub mod Requests
 pub mod Headline

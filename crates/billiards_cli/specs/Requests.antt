@@ -4,13 +4,17 @@ use Rattle.std.specs.declared.option.Option.{Option}
 use Rattle.std.specs.Str.{bytes_eq}
 use Rattle.covering_file.specs.CheckClaims.{check_claims}
 use Rattle.covering_file.specs.FilePart.{file_grammar}
+use Rattle.covering_file.specs.HeaderPart.{job_part}
 use Rattle.covering_file.specs.declared.TheConstants.{MAX_NODES}
 use Rattle.billiards_cli.specs.Command.{Command, Nothing, By}
 use Rattle.billiards_cli.specs.Commands.Word.{word_request, word_input, ends_word, IsWordAnswer, IsWordDue}
 use Rattle.billiards_cli.specs.Commands.Check.{check_request, ends_check, IsCheckAnswer, IsCheckDue}
 use Rattle.billiards_cli.specs.Commands.At.{at_request, IsAtAnswer, IsAtDue}
+use Rattle.billiards_cli.specs.Commands.Cover.{cover_request, ends_cover, IsCoverAnswer, IsCoverDue}
+use Rattle.billiards_cli.specs.Commands.Job.{job_request, IsJobAnswer, IsJobDue}
+use Rattle.billiards_cli.specs.Commands.Demo.{demo_request, IsDemoAnswer, IsDemoDue}
 use Rattle.billiards_cli.specs.declared.request.Request.{Request}
-use Rattle.billiards_cli.specs.declared.request.Request.TheVariants.{Word, Check, At}
+use Rattle.billiards_cli.specs.declared.request.Request.TheVariants.{Word, Check, At, Cover, Job, Demo}
 
 -- the commands by their names: what the arguments after a name ask of it, if anything
 abbrev pub request_named : List ℕ → List (List ℕ) → Option Request
@@ -18,7 +22,10 @@ request_named name arguments =
     if bytes_eq name (codes "word") then word_request arguments else
     (if bytes_eq name (codes "check") then check_request arguments else
     (if bytes_eq name (codes "at") then at_request arguments else
-    None))
+    (if bytes_eq name (codes "cover") then cover_request arguments else
+    (if bytes_eq name (codes "job") then job_request arguments else
+    (if bytes_eq name (codes "demo") then demo_request arguments else
+    None)))))
 
 abbrev pub request_of : List (List ℕ) → Option Request
 request_of [] = None
@@ -43,4 +50,22 @@ command_of (At word triangle) = record {
   ends = λ status. false;
   IsRight = λ input. IsAtAnswer word triangle;
   IsDue = λ input. IsAtDue word triangle;
+}
+command_of Cover = record {
+  reads = By job_part.grammar;
+  ends = ends_cover;
+  IsRight = IsCoverAnswer;
+  IsDue = IsCoverDue;
+}
+command_of (Job k) = record {
+  reads = Nothing;
+  ends = λ status. false;
+  IsRight = λ input. IsJobAnswer k;
+  IsDue = λ input. IsJobDue;
+}
+command_of (Demo k) = record {
+  reads = Nothing;
+  ends = λ status. false;
+  IsRight = λ input. IsDemoAnswer k;
+  IsDue = λ input. IsDemoDue;
 }

@@ -1,5 +1,5 @@
 -- What a run of a command does to its source and its sink.
-use Rattle.std.specs.Prelude.{◌≡◌, ◌⊎◌, ℕ, ◌+◌, Bool, true, false, List, [], length, ⊤}
+use Rattle.std.specs.Prelude.{◌≡◌, ◌≢◌, ◌⊎◌, ℕ, ◌+◌, Bool, true, false, List, [], length, ⊤}
 use Rattle.std.specs.declared.option.Option.{Option}
 use Rattle.std.specs.declared.result.Result.{Result}
 use Rattle.std.specs.declared.result.Result.TheVariants.{Ok, Err}
@@ -29,11 +29,11 @@ pub record StopsAtNamed (g : Grammar) (text : List ℕ) (left left' : Option (Li
   pub named : MayName text (length (g.lines_before due) + 1)
   pub ends : EndsAt g due left left'
 
--- an answer was read for: to the end of the input, or as far as the line that it names
+-- an answer was read for: to the end of the input, or as far as the line that it names; an empty text either way
 abbrev pub ReadsFor : Reading → Bool → List ℕ → Option (List ℕ) → Option (List ℕ) → Type 0
 ReadsFor Nothing ends text left left' = ⊤
 ReadsFor (By g) true text left left' = IsAtEnd left'
-ReadsFor (By g) false text left left' = StopsAtNamed g text left left'
+ReadsFor (By g) false text left left' = StopsAtNamed g text left left' ⊎ ((text ≡ []) × IsAtEnd left')
 
 -- a read failed: at some due line
 abbrev pub FailsIn : Reading → Option (List ℕ) → Option (List ℕ) → Type 0
@@ -57,11 +57,16 @@ pub record WritesAnswer (command : Command) (before after : Streams) (status : S
   pub answer : IsAnswer command before.left after.left status text
   pub written : Appends before.written after.written text
 
--- a prefix of the text of a right answer was written
+-- A prefix of the text of a right answer was written. A text that goes with WriteFault itself is one that may go on; the input has no part in
+-- that status.
 pub record BeginsAnswer (command : Command) (before after : Streams) : Type 0 where
+  pub input : List ℕ
   pub status : Status
   pub text : List ℕ
-  pub answer : IsAnswer command before.left after.left status text
+  pub may_be : MayBe before.left input
+  pub right : command.IsRight input status text
+  pub due : status ≢ WriteFault → command.IsDue input status
+  pub read : ReadsFor command.reads (command.ends status) text before.left after.left
   pub begun : AppendsPrefix before.written after.written text
 
 -- memory was wanting, where that is a right answer, and nothing was written

@@ -1,4 +1,7 @@
 // The commands, a module for each.
 pub(crate) mod at;
 pub(crate) mod check;
+pub(crate) mod cover;
+pub(crate) mod demo;
+pub(crate) mod job;
 pub(crate) mod word;

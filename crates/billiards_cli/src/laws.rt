@@ -1,6 +1,6 @@
-//! How much freedom right answers leave, over the definitions alone: each function's contract is a law. The program calls
-//! none.
-ghost use Rattle.billiards_cli.specs.Laws.{WordAnswerIsOne, AtAnswersDifferBetween};
+//! How much freedom right answers leave, and how those of one command go with those of another, over the definitions alone:
+//! each function's contract is a law. The program calls none.
+ghost use Rattle.billiards_cli.specs.Laws.{WordAnswerIsOne, AtAnswersDifferBetween, CompleteIsAccepted, GeneratedIsJob};
 
 /// Two right answers of `word` to one input, neither of which is that memory is wanting, have one status and one text.
 pub fn word_answer_is_one()
@@ -11,4 +11,15 @@ pub fn word_answer_is_one()
 /// a corridor at the triangle and is not clear there with the wider slack.
 pub fn at_answers_differ_between()
     ensures { AtAnswersDifferBetween }
+{}
+
+/// Complete is accepted: what `cover` writes where it is done is the text of a file with a sure tree, and `check` accepts it,
+/// but for want of memory.
+pub fn complete_is_accepted()
+    ensures { CompleteIsAccepted }
+{}
+
+/// Each generated job is a job: a polygon, a stable word and a depth within the limits.
+pub fn generated_is_job()
+    ensures { GeneratedIsJob }
 {}

@@ -6,6 +6,7 @@
 
 mod args;
 mod commands;
+mod job_number;
 pub mod laws;
 mod number;
 mod program;
@@ -20,6 +21,7 @@ mod usage;
 mod word_argument;
 
 pub use args::Args;
+use job_number::JobNumber;
 use mcb_ends::{StdSink, StdSource};
 pub use program::run;
 pub use status::Status;

@@ -7,8 +7,11 @@ ghost use Rattle.billiards_cli.specs.Services.{Serves};
 
 use crate::commands::at::{self, at};
 use crate::commands::check::{self, check};
+use crate::commands::cover::{self, cover};
+use crate::commands::demo::{self, demo};
+use crate::commands::job::{self, job};
 use crate::commands::word::{self, word};
-use crate::{Args, Status, Triangle, WordArgument};
+use crate::{Args, JobNumber, Status, Triangle, WordArgument};
 use mcb_ends::{Sink, Source};
 use std::alloc::Global;
 
@@ -24,6 +27,12 @@ pub(crate) enum Request<'a> {
         word: WordArgument<'a>,
         triangle: Triangle,
     },
+    /// A covering file for a job that is read from the input.
+    Cover,
+    /// The generated job of a number.
+    Job(JobNumber),
+    /// The covering of a generated job, and the verdict on it.
+    Demo(JobNumber),
 }
 
 /// The request of a command line: its first argument is the name of a command.
@@ -37,6 +46,12 @@ pub(crate) fn parse(arguments: &Args) -> Option<Request<'_>>
         check::request(&arguments)
     } else if name == b"at".as_slice() {
         at::request(&arguments)
+    } else if name == b"cover".as_slice() {
+        cover::request(&arguments)
+    } else if name == b"job".as_slice() {
+        job::request(&arguments)
+    } else if name == b"demo".as_slice() {
+        demo::request(&arguments)
     } else {
         None
     }
@@ -61,5 +76,8 @@ pub(crate) fn obey<S: Source, K: Sink>(
         Request::Word => word(alloc, src, out),
         Request::Check => check(alloc, src, out),
         Request::At { word, triangle } => at(alloc, word, triangle, out),
+        Request::Cover => cover(alloc, src, out),
+        Request::Job(number) => job(number, out),
+        Request::Demo(number) => demo(alloc, number, out),
     }
 }

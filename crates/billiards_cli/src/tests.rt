@@ -1,6 +1,9 @@
 // What no clause says: the texts and statuses of rows from outside, a file a command.
 mod at;
 mod check;
+mod cover;
+mod demo;
 mod fixtures;
+mod job;
 mod usage;
 mod word;

@@ -7,8 +7,8 @@ ghost use Rattle.cover_checker.specs.Verdicts.{IsRightAfter, StopsInTree};
 
 use crate::Verdict;
 use crate::tree::take_tree;
+use covering_claims::WordTests;
 use covering_file::{Header, MAX_NODES};
-use gradient_bounds::Prepared;
 use line_grammar::LineFault;
 use mcb_ends::{Failed, LineReader, Source};
 use pi_bounds::Fine;
@@ -19,7 +19,7 @@ use std::alloc::Global;
 pub fn judge<S: Source>(
     alloc: Global,
     header: &Header,
-    tests: &mut [Prepared<Fine>],
+    tests: &mut [WordTests<Fine>],
     limit: u32,
     lines: &mut LineReader,
     src: &mut S,

@@ -7,9 +7,8 @@ ghost use Rattle.covering_file.specs.FilePart.{nodes_part};
 ghost use Rattle.covering_file.specs.Node.{IsNode};
 ghost use Rattle.cover_checker.specs.Steps.{JudgesNode, ReadsNode, TakesNodes};
 
-use covering_claims::pass_node;
+use covering_claims::{WordTests, pass_node};
 use covering_file::{Header, MAX_NODES, Node, NodeLine, Reason, Walk};
-use gradient_bounds::Prepared;
 use line_grammar::{LineFault, take};
 use mcb_ends::{LineReader, Source};
 use pi_bounds::Fine;
@@ -21,7 +20,7 @@ use std::alloc::Global;
 pub fn take_nodes<S: Source>(
     alloc: Global,
     header: &Header,
-    tests: &mut [Prepared<Fine>],
+    tests: &mut [WordTests<Fine>],
     limit: u32,
     lines: &mut LineReader,
     src: &mut S,
@@ -51,7 +50,7 @@ pub fn take_nodes<S: Source>(
 // Takes the line of the node for a box, after so many nodes.
 fn take_node<S: Source>(
     header: &Header,
-    tests: &mut [Prepared<Fine>],
+    tests: &mut [WordTests<Fine>],
     limit: u32,
     count: u32,
     place: GridBox,
@@ -81,7 +80,7 @@ fn take_node<S: Source>(
 // Passes a node that may stand at the box and is not one too many.
 fn judge_node(
     header: &Header,
-    tests: &mut [Prepared<Fine>],
+    tests: &mut [WordTests<Fine>],
     limit: u32,
     count: u32,
     place: GridBox,

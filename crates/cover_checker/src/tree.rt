@@ -6,8 +6,8 @@ ghost use Rattle.cover_checker.specs.Steps.{TakesTree};
 ghost use Rattle.cover_checker.specs.Verdicts.{checked_tree};
 
 use crate::nodes::take_nodes;
+use covering_claims::WordTests;
 use covering_file::{Header, MAX_NODES, Reason};
-use gradient_bounds::Prepared;
 use line_grammar::{LineFault, Whole, end_of_input, take};
 use mcb_ends::{LineReader, Source};
 use pi_bounds::Fine;
@@ -18,7 +18,7 @@ use std::alloc::Global;
 pub fn take_tree<S: Source>(
     alloc: Global,
     header: &Header,
-    tests: &mut [Prepared<Fine>],
+    tests: &mut [WordTests<Fine>],
     limit: u32,
     lines: &mut LineReader,
     src: &mut S,

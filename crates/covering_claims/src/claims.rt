@@ -4,16 +4,15 @@ ghost use Rattle.covering_file.specs.Sound.{IsSoundNode};
 ghost use Rattle.covering_file.specs.Sound as sound;
 ghost use Rattle.covering_claims.specs.Claims.{slacks_of, PassesNode};
 
-use crate::shown::is_shown;
+use crate::{WordTests, is_shown};
 use covering_file::{Header, Node, Reason};
 use directed_fixed::Scale;
-use gradient_bounds::Prepared;
 use rational_polygon::GridBox;
 
 /// Passes a node that may stand at the box. Else its reason.
 pub fn pass_node<S: Scale>(
     header: &Header,
-    tests: &mut [Prepared<S>],
+    tests: &mut [WordTests<S>],
     place: GridBox,
     node: Node,
 ) -> Result<(), Reason>
@@ -32,7 +31,7 @@ pub fn pass_node<S: Scale>(
 /// Whether what the node claims of the box is so.
 pub fn may_stand<S: Scale>(
     header: &Header,
-    tests: &mut [Prepared<S>],
+    tests: &mut [WordTests<S>],
     place: GridBox,
     node: Node,
 ) -> bool

@@ -7,10 +7,12 @@
 mod claims;
 mod shown;
 mod testing;
+mod word_tests;
 
 pub use claims::{may_stand, pass_node, reason_of};
-pub use shown::first_shown;
+pub use shown::{first_shown, is_shown, is_shut};
 pub use testing::prepare;
+pub use word_tests::WordTests;
 
 #[cfg(test)]
 mod box_tests;

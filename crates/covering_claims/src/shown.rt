@@ -1,14 +1,14 @@
 ghost use Rattle.std.specs.Prelude.{◌≡◌, ◌<◌, ◌^◌, length, IsTrue, MatchOption};
-ghost use Rattle.gradient_bounds.specs.Clear.{slack, IsClear};
+ghost use Rattle.gradient_bounds.specs.Clear.{slack, IsClear, IsShut};
 ghost use Rattle.covering_file.specs.Faults.{word_at, IsListed};
 ghost use Rattle.covering_claims.specs.Claims.{slacks_of, NoneIsClear, IsFirstClear};
 
+use crate::WordTests;
 use directed_fixed::Scale;
-use gradient_bounds::Prepared;
 use rational_polygon::GridBox;
 
 /// The number of the first listed word, counted from 1, that is shown on the box. `None` where none is.
-pub fn first_shown<S: Scale>(tests: &mut [Prepared<S>], place: GridBox) -> Option<u32>
+pub fn first_shown<S: Scale>(tests: &mut [WordTests<S>], place: GridBox) -> Option<u32>
     requires few { length tests.old < 2 ^ 32 }
     ensures kept { tests.new ≡ tests.old }
     ensures first { MatchOption result (NoneIsClear tests.old (slacks_of S.HIGH_BITS) place) (IsFirstClear tests.old (slacks_of S.LOW_BITS) (slacks_of S.HIGH_BITS) place) }
@@ -22,11 +22,21 @@ pub fn first_shown<S: Scale>(tests: &mut [Prepared<S>], place: GridBox) -> Optio
 }
 
 /// Whether the listed word of number `i`, counted from 1, is shown on the box.
-pub(crate) fn is_shown<S: Scale>(tests: &mut [Prepared<S>], i: u32, place: GridBox) -> bool
+pub fn is_shown<S: Scale>(tests: &mut [WordTests<S>], i: u32, place: GridBox) -> bool
     requires { IsListed tests.old i }
     ensures kept { tests.new ≡ tests.old }
     ensures clear { IsTrue result → IsClear (word_at tests.old i) place (slack S.LOW_BITS) }
     ensures found { IsClear (word_at tests.old i) place (slack S.HIGH_BITS) → IsTrue result }
 {
-    tests[i as usize - 1].test_box(place)
+    tests[i as usize - 1].is_clear(place)
+}
+
+/// Whether the listed word of number `i`, counted from 1, is shut on the box, so that it is shown on no box within.
+pub fn is_shut<S: Scale>(tests: &mut [WordTests<S>], i: u32, place: GridBox) -> bool
+    requires { IsListed tests.old i }
+    ensures kept { tests.new ≡ tests.old }
+    ensures shut { IsTrue result → IsShut (word_at tests.old i) place (slack S.LOW_BITS) }
+    ensures found { IsShut (word_at tests.old i) place (slack S.HIGH_BITS) → IsTrue result }
+{
+    tests[i as usize - 1].is_shut(place)
 }

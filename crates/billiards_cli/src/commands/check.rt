@@ -11,7 +11,7 @@ use crate::refusal::write_refusal;
 use crate::request::Request;
 use crate::rest::Rest;
 use crate::status::after_writing;
-use acceptance::write_acceptance;
+pub(crate) use acceptance::write_acceptance;
 use cover_checker::{CheckFault, Verdict};
 use covering_file::{MAX_NODES, Reason};
 use mcb_ends::{Sink, Source};

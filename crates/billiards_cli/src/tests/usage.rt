@@ -5,7 +5,7 @@ use std::test::Fail;
 // Arguments that ask for nothing leave the input alone.
 #[test]
 fn other_arguments_are_a_wrong_use(rt: HostRuntime) -> Result<(), Fail> {
-    let rows: [&[&str]; 10] = [
+    let rows: [&[&str]; 15] = [
         &[],
         &["help"],
         &["check", "x"],
@@ -13,7 +13,12 @@ fn other_arguments_are_a_wrong_use(rt: HostRuntime) -> Result<(), Fail> {
         &["at", "123123", "1", "1"],
         &["at", "123123", "1", "1", "2"],
         &["at", "123123", "01", "1", "3"],
+        &["job"],
         &["job", "0"],
+        &["job", "128"],
+        &["job", "020"],
+        &["demo", "0"],
+        &["cover", "x"],
         &["search", "1", "1", "3", "7"],
         &["upgrade", "1"],
     ];

@@ -4,3 +4,13 @@ pub returns-in-At-clause-serves : goal.returns-in-At-clause-serves
 returns-in-At-clause-serves g c =
     let s = g.S.Source in
     rw c.in-At.is (c.at.ensures.serves (s.left c.args.src.now) (s.faults c.args.src.now))
+
+pub returns-in-Job-clause-serves : goal.returns-in-Job-clause-serves
+returns-in-Job-clause-serves g c =
+    let s = g.S.Source in
+    rw c.in-Job.is (c.job.ensures.serves (s.left c.args.src.now) (s.faults c.args.src.now))
+
+pub returns-in-Demo-clause-serves : goal.returns-in-Demo-clause-serves
+returns-in-Demo-clause-serves g c =
+    let s = g.S.Source in
+    rw c.in-Demo.is (c.demo.ensures.serves (s.left c.args.src.now) (s.faults c.args.src.now))

@@ -8,11 +8,11 @@ pub returns-clause-clear : goal.returns-clause-clear
 returns-clause-clear g c passed =
     subst (λ (w : List ℕ). IsClear w c.args.place (slack g.S.Scale.LOW_BITS))
     (sym c.index-tests-i.is ∙ listed_test c.args.tests.now c.args.tests.now c.args.i c.index-tests-i.result refl c.requires c.index-tests-i.is)
-    (c.test_box.ensures.clear passed)
+    (c.is_clear.ensures.clear passed)
 
 pub returns-clause-found : goal.returns-clause-found
 returns-clause-found g c clear =
-    c.test_box.ensures.found
+    c.is_clear.ensures.found
     (subst (λ (w : List ℕ). IsClear w c.args.place (slack g.S.Scale.HIGH_BITS))
     (sym (sym c.index-tests-i.is ∙ listed_test c.args.tests.now c.args.tests.now c.args.i c.index-tests-i.result refl c.requires c.index-tests-i.is))
     clear)

@@ -1,0 +1,37 @@
+-- The generated jobs: each of a right-angled triangle of acute triangles round the equilateral one, with the one word 123123. They are this
+-- program's own.
+use Rattle.std.specs.Prelude.{ℕ, ◌+◌, ◌-◌, ◌*◌, ◌≤◌, List, [], ◌∷◌}
+use Rattle.std.specs.declared.option.Option.{Option}
+use Rattle.rational_polygon.specs.Outline.{Outline}
+use Rattle.covering_file.specs.Header.{Heading}
+use Rattle.billiards_cli.specs.Arguments.{number_up_to, at_least}
+
+-- the numbers of the jobs
+pub record IsJobNumber (k : ℕ) : Type 0 where
+  pub at_least : 1 ≤ k
+  pub at_most : k ≤ 127
+
+-- the number of a job that a text writes
+abbrev pub job_number : List ℕ → Option ℕ
+job_number text = at_least 1 (number_up_to 127 text)
+
+-- Two sides of 3 k grid steps, a third of them on the far side of the equilateral triangle, which is the point (256, 256).
+abbrev pub near_side : ℕ → ℕ
+near_side k = 256 + k
+
+abbrev pub far_side : ℕ → ℕ
+far_side k = 256 - 2 * k
+
+abbrev pub job_outline : ℕ → Outline
+job_outline k = record {
+  grid = 768;
+  corners = (near_side k, far_side k) ∷ (near_side k, near_side k) ∷ (far_side k, near_side k) ∷ [];
+}
+
+-- the word 123123
+abbrev pub job_word : List ℕ
+job_word = 1 ∷ 2 ∷ 3 ∷ 1 ∷ 2 ∷ 3 ∷ []
+
+-- what job k says
+abbrev pub job_heading : ℕ → Heading
+job_heading k = record { outline = job_outline k; words = job_word ∷ []; depth = 10 }

@@ -1,0 +1,4 @@
+mod Shut
+mod Reached
+mod Lines
+pub mod Sure

@@ -1,0 +1,45 @@
+-- The tests are those of the header's words, before and after each call.
+use Rattle.std.proofs.Common.{◌∙◌, ℕ, List, sym, ap, subst, arith}
+use Rattle.rational_polygon.specs.Apart.{IsApart}
+use Rattle.rational_polygon.specs.Outline.{Outline}
+use Rattle.rational_polygon.specs.Square.{Square}
+use Rattle.gradient_bounds.specs.Slacks as slacks
+use Rattle.covering_claims.specs.Claims.{NoneIsClear, IsFirstClear}
+use Rattle.coverer.specs.Words.{AreShutOut}
+use Rattle.coverer.proofs.Shut.{not_both}
+use Rattle.coverer.proofs.choosing.choose.Goals as goal
+
+pub first_clear-requires-clause-shut : goal.first_clear-requires-clause-shut
+first_clear-requires-clause-shut c = subst (λ (ts : List (List ℕ)). AreShutOut ts c.args.words c.args.place) (sym c.requires.tests) c.requires.shut
+
+pub returns-in-Some-clause-cause : goal.returns-in-Some-clause-cause
+returns-in-Some-clause-cause c = (
+  λ apart. not_both c.apart.result c.if-apart.false
+      (c.apart.ensures.1 (subst (λ (o : Outline). IsApart c.args.place o) (sym c.polygon.ensures.value) apart)),
+  subst (λ (ts : List (List ℕ)). IsFirstClear ts slacks.sure slacks.findable c.args.place c.in-Some.i) c.requires.tests c.in-Some.ensures.first,
+)
+
+pub without_shut-requires-clause-shut : goal.without_shut-requires-clause-shut
+without_shut-requires-clause-shut c =
+    subst (λ (ts : List (List ℕ)). AreShutOut ts c.args.words c.args.place) (sym (c.in_default.ensures.kept ∙ c.requires.tests)) c.requires.shut
+
+pub returns-then-place-depth-clause-cause : goal.returns-then-place-depth-clause-cause
+returns-then-place-depth-clause-cause c = (
+  λ apart. not_both c.apart.result c.if-apart.false
+      (c.apart.ensures.1 (subst (λ (o : Outline). IsApart c.args.place o) (sym c.polygon.ensures.value) apart)),
+  subst (λ (ts : List (List ℕ)). NoneIsClear ts slacks.findable c.args.place) c.requires.tests c.in_default.ensures.first,
+  omega (arith, c.if-place-depth.true, c.depth.ensures.value, ap (λ (s : Square). s.level) c.place.view_is),
+)
+
+pub returns-then-place-depth-clause-shut : goal.returns-then-place-depth-clause-shut
+returns-then-place-depth-clause-shut c =
+    subst (λ (ts : List (List ℕ)). AreShutOut ts c.without_shut.result c.args.place) (c.in_default.ensures.kept ∙ c.requires.tests)
+    c.without_shut.ensures.shut
+
+pub returns-clause-cause : goal.returns-clause-cause
+returns-clause-cause c = (
+  λ apart. not_both c.apart.result c.if-apart.false
+      (c.apart.ensures.1 (subst (λ (o : Outline). IsApart c.args.place o) (sym c.polygon.ensures.value) apart)),
+  subst (λ (ts : List (List ℕ)). NoneIsClear ts slacks.findable c.args.place) c.requires.tests c.in_default.ensures.first,
+  omega (arith, c.if-place-depth.false, c.requires.level, c.depth.ensures.value, ap (λ (s : Square). s.level) c.place.view_is),
+)

@@ -1,0 +1,18 @@
+-- The test at the place of a listed word is that of the word.
+use Rattle.std.proofs.Common.{refl, sym, ◌∙◌, subst, ℕ, List}
+use Rattle.gradient_bounds.specs.Clear.{slack, IsShut}
+use Rattle.covering_claims.proofs.Listed.{listed_test}
+use Rattle.covering_claims.proofs.shown.is_shut.Goals as goal
+
+pub returns-clause-shut : goal.returns-clause-shut
+returns-clause-shut g c passed =
+    subst (λ (w : List ℕ). IsShut w c.args.place (slack g.S.Scale.LOW_BITS))
+    (sym c.index-tests-i.is ∙ listed_test c.args.tests.now c.args.tests.now c.args.i c.index-tests-i.result refl c.requires c.index-tests-i.is)
+    (c.is_shut.ensures.shut passed)
+
+pub returns-clause-found : goal.returns-clause-found
+returns-clause-found g c clear =
+    c.is_shut.ensures.found
+    (subst (λ (w : List ℕ). IsShut w c.args.place (slack g.S.Scale.HIGH_BITS))
+    (sym (sym c.index-tests-i.is ∙ listed_test c.args.tests.now c.args.tests.now c.args.i c.index-tests-i.result refl c.requires c.index-tests-i.is))
+    clear)

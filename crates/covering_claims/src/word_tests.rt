@@ -1,0 +1,62 @@
+ghost use Rattle.std.specs.Prelude.{◌≡◌, ◌↔◌, IsTrue, IfOk, IsErrOf};
+ghost use Rattle.edge_words.specs.Stable.{IsStable};
+ghost use Rattle.rational_polygon.specs.Point.{Point};
+ghost use Rattle.rational_polygon.specs.Square.{IsInBox};
+ghost use Rattle.gradient_bounds.specs.Corridor.{HasCorridor};
+ghost use Rattle.gradient_bounds.specs.Clear.{slack, IsClear, IsShut};
+ghost use Rattle.gradient_bounds.specs.declared.fault.PrepareFault.TheVariants.{Unstable};
+
+use directed_fixed::Scale;
+use edge_words::Word;
+use gradient_bounds::{PrepareFault, Prepared};
+use rational_polygon::GridBox;
+use std::alloc::Global;
+use std::marker::Model;
+
+/// The tests of a listed word on boxes, at the scale `S`. They are seen as their word.
+///
+/// Only `new` takes memory.
+#[derive(Drop)]
+pub struct WordTests<S: Scale> {
+    prepared: Prepared<S>,
+}
+
+impl<S: Scale> Model for WordTests<S> {
+    ghost use Rattle.std.specs.Prelude.{List, ℕ};
+
+    ghost Value = { List ℕ };
+
+    ghost view = { λ tests. tests.prepared };
+}
+
+impl<S: Scale> WordTests<S> {
+    /// Makes the tests of a word. One that is not stable is refused before memory is taken.
+    pub fn new(alloc: Global, word: &Word) -> Result<WordTests<S>, PrepareFault>
+        ensures word { IfOk result (λ tests. tests ≡ word.now) }
+        ensures unstable { IsErrOf result Unstable ↔ ¬ (IsStable word.now) }
+    {
+        Ok(WordTests {
+            prepared: Prepared::new(alloc, word)?,
+        })
+    }
+
+    /// Whether the word is seen to have a corridor at every point of the box.
+    pub fn is_clear(&mut self, place: GridBox) -> bool
+        ensures word { self.new ≡ self.old }
+        ensures clear { IsTrue result → IsClear self.old place (slack S.LOW_BITS) }
+        ensures found { IsClear self.old place (slack S.HIGH_BITS) → IsTrue result }
+        ensures corridor { IsTrue result → (p : Point) → IsInBox place p → HasCorridor self.old p.x p.y }
+    {
+        self.prepared.test_box(place)
+    }
+
+    /// Whether the word is seen to have a corridor at no point of the box.
+    pub fn is_shut(&mut self, place: GridBox) -> bool
+        ensures word { self.new ≡ self.old }
+        ensures shut { IsTrue result → IsShut self.old place (slack S.LOW_BITS) }
+        ensures found { IsShut self.old place (slack S.HIGH_BITS) → IsTrue result }
+        ensures no_corridor { IsTrue result → (p : Point) → IsInBox place p → ¬ (HasCorridor self.old p.x p.y) }
+    {
+        self.prepared.shut_box(place)
+    }
+}
