@@ -13,4 +13,5 @@ pub mod JobAnswers
 pub mod CoverAnswers
 pub mod CoverSizes
 pub mod DemoAnswers
+pub mod SearchAnswers
 pub mod OneAnswer

@@ -5,3 +5,4 @@ pub mod At
 pub mod Cover
 pub mod Job
 pub mod Demo
+pub mod Search

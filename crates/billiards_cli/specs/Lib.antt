@@ -3,7 +3,9 @@ pub mod Command
 pub mod Services
 pub mod Arguments
 pub mod Refusals
+pub mod EndLine
 pub mod Jobs
+pub mod SearchBounds
 pub mod Commands
 pub mod Requests
 pub mod Headline

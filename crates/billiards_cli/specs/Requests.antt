@@ -13,8 +13,9 @@ use Rattle.billiards_cli.specs.Commands.At.{at_request, IsAtAnswer, IsAtDue}
 use Rattle.billiards_cli.specs.Commands.Cover.{cover_request, ends_cover, IsCoverAnswer, IsCoverDue}
 use Rattle.billiards_cli.specs.Commands.Job.{job_request, IsJobAnswer, IsJobDue}
 use Rattle.billiards_cli.specs.Commands.Demo.{demo_request, IsDemoAnswer, IsDemoDue}
+use Rattle.billiards_cli.specs.Commands.Search.{search_request, IsSearchAnswer, IsSearchDue}
 use Rattle.billiards_cli.specs.declared.request.Request.{Request}
-use Rattle.billiards_cli.specs.declared.request.Request.TheVariants.{Word, Check, At, Cover, Job, Demo}
+use Rattle.billiards_cli.specs.declared.request.Request.TheVariants.{Word, Check, At, Cover, Job, Demo, Search}
 
 -- the commands by their names: what the arguments after a name ask of it, if anything
 abbrev pub request_named : List ℕ → List (List ℕ) → Option Request
@@ -25,7 +26,8 @@ request_named name arguments =
     (if bytes_eq name (codes "cover") then cover_request arguments else
     (if bytes_eq name (codes "job") then job_request arguments else
     (if bytes_eq name (codes "demo") then demo_request arguments else
-    None)))))
+    (if bytes_eq name (codes "search") then search_request arguments else
+    None))))))
 
 abbrev pub request_of : List (List ℕ) → Option Request
 request_of [] = None
@@ -68,4 +70,10 @@ command_of (Demo k) = record {
   ends = λ status. false;
   IsRight = λ input. IsDemoAnswer k;
   IsDue = λ input. IsDemoDue;
+}
+command_of (Search triangle bound) = record {
+  reads = Nothing;
+  ends = λ status. false;
+  IsRight = λ input. IsSearchAnswer triangle bound;
+  IsDue = λ input. IsSearchDue;
 }

@@ -4,4 +4,5 @@ pub(crate) mod check;
 pub(crate) mod cover;
 pub(crate) mod demo;
 pub(crate) mod job;
+pub(crate) mod search;
 pub(crate) mod word;

@@ -7,6 +7,7 @@
 mod args;
 mod blocks;
 mod commands;
+mod end_line;
 mod job_number;
 pub mod laws;
 mod number;
@@ -14,6 +15,7 @@ mod program;
 mod refusal;
 mod request;
 mod rest;
+mod search_bound;
 mod status;
 #[cfg(test)]
 mod tests;
@@ -25,6 +27,7 @@ pub use args::Args;
 use job_number::JobNumber;
 use mcb_ends::{StdSink, StdSource};
 pub use program::run;
+use search_bound::SearchBound;
 pub use status::Status;
 use std::alloc::Global;
 use std::env::Env;

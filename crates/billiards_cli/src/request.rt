@@ -10,8 +10,9 @@ use crate::commands::check::{self, check};
 use crate::commands::cover::{self, cover};
 use crate::commands::demo::{self, demo};
 use crate::commands::job::{self, job};
+use crate::commands::search::{self, search};
 use crate::commands::word::{self, word};
-use crate::{Args, JobNumber, Status, Triangle, WordArgument};
+use crate::{Args, JobNumber, SearchBound, Status, Triangle, WordArgument};
 use mcb_ends::{Sink, Source};
 use std::alloc::Global;
 
@@ -33,6 +34,11 @@ pub(crate) enum Request<'a> {
     Job(JobNumber),
     /// The covering of a generated job, and the verdict on it.
     Demo(JobNumber),
+    /// The words that are open at a triangle.
+    Search {
+        triangle: Triangle,
+        bound: SearchBound,
+    },
 }
 
 /// The request of a command line: its first argument is the name of a command.
@@ -52,6 +58,8 @@ pub(crate) fn parse(arguments: &Args) -> Option<Request<'_>>
         job::request(&arguments)
     } else if name == b"demo".as_slice() {
         demo::request(&arguments)
+    } else if name == b"search".as_slice() {
+        search::request(&arguments)
     } else {
         None
     }
@@ -79,5 +87,6 @@ pub(crate) fn obey<S: Source, K: Sink>(
         Request::Cover => cover(alloc, src, out),
         Request::Job(number) => job(number, out),
         Request::Demo(number) => demo(alloc, number, out),
+        Request::Search { triangle, bound } => search(alloc, triangle, bound, out),
     }
 }

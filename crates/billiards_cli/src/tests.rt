@@ -5,5 +5,6 @@ mod cover;
 mod demo;
 mod fixtures;
 mod job;
+mod search;
 mod usage;
 mod word;

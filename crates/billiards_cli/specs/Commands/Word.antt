@@ -3,7 +3,7 @@ use Rattle.std.specs.Prelude.{◌≡◌, ◌⊎◌, ℕ, List, [], ◌∷◌, �
 use Rattle.std.specs.declared.option.Option.{Option}
 use Rattle.std.specs.declared.result.Result.{Result}
 use Rattle.std.specs.List.{concat, flat_map}
-use Rattle.std.specs.Fmt.{decimal, signed_decimal}
+use Rattle.std.specs.Fmt.{signed_decimal}
 use Rattle.mcb_ends.specs.Bytes.{Writes}
 use Rattle.edge_words.specs.Stable.{IsStable}
 use Rattle.exp_sums.specs.declared.terms.Term.{Term}
@@ -14,6 +14,7 @@ use Rattle.line_grammar.specs.Part.{Part, line_part, whole_text}
 use Rattle.line_grammar.specs.Text.{text_of}
 use Rattle.line_grammar.specs.declared.reason.Reason.{Reason}
 use Rattle.billiards_cli.specs.Arguments.{any_word}
+use Rattle.billiards_cli.specs.EndLine.{end_text}
 use Rattle.billiards_cli.specs.Refusals.{newline, RefusesLine}
 use Rattle.billiards_cli.specs.declared.request.Request.{Request}
 use Rattle.billiards_cli.specs.declared.request.Request.TheVariants as request
@@ -47,9 +48,6 @@ term_line t = concat (signed_decimal t.dir.m ∷ codes " " ∷ signed_decimal t.
 
 abbrev pub terms_text : List Term → List ℕ
 terms_text ts = flat_map term_line ts
-
-abbrev pub end_text : ℕ → List ℕ
-end_text count = concat (codes "end " ∷ decimal count ∷ newline ∷ [])
 
 -- the shift of a word: its terms, in the order of their directions, and their number
 abbrev pub shift_text : FormalPoint → List ℕ

@@ -5,7 +5,7 @@ use std::test::Fail;
 // Arguments that ask for nothing leave the input alone.
 #[test]
 fn other_arguments_are_a_wrong_use(rt: HostRuntime) -> Result<(), Fail> {
-    let rows: [&[&str]; 15] = [
+    let rows: [&[&str]; 20] = [
         &[],
         &["help"],
         &["check", "x"],
@@ -20,6 +20,11 @@ fn other_arguments_are_a_wrong_use(rt: HostRuntime) -> Result<(), Fail> {
         &["demo", "0"],
         &["cover", "x"],
         &["search", "1", "1", "3", "7"],
+        &["search", "1", "1", "3", "4"],
+        &["search", "1", "1", "3", "26"],
+        &["search", "1", "1", "3", "06"],
+        &["search", "1", "1", "2", "6"],
+        &["search", "1", "1", "3"],
         &["upgrade", "1"],
     ];
     for arguments in rows {

@@ -14,3 +14,8 @@ pub returns-in-Demo-clause-serves : goal.returns-in-Demo-clause-serves
 returns-in-Demo-clause-serves g c =
     let s = g.S.Source in
     rw c.in-Demo.is (c.demo.ensures.serves (s.left c.args.src.now) (s.faults c.args.src.now))
+
+pub returns-in-Search-clause-serves : goal.returns-in-Search-clause-serves
+returns-in-Search-clause-serves g c =
+    let s = g.S.Source in
+    rw c.in-Search.is (c.search.ensures.serves (s.left c.args.src.now) (s.faults c.args.src.now))

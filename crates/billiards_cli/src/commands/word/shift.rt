@@ -2,8 +2,9 @@ ghost use Rattle.std.specs.Prelude.{◌≡◌};
 ghost use Rattle.std.specs.Fmt.{signed_decimal};
 ghost use Rattle.mcb_ends.specs.Bytes.{Writes};
 ghost use Rattle.mcb_ends.specs.Causes.{HasCause};
-ghost use Rattle.billiards_cli.specs.Commands.Word.{shift_text, terms_text, term_line, end_text};
+ghost use Rattle.billiards_cli.specs.Commands.Word.{shift_text, terms_text, term_line};
 
+use crate::end_line::write_end;
 use exp_sums::{ExpSum, Term};
 use mcb_ends::{Decimal, Failed, Sink, put, put_all};
 
@@ -16,14 +17,6 @@ pub(crate) fn write_shift<K: Sink>(shift: &ExpSum, out: &mut K) -> Result<(), Fa
     put(out, b"stable\n")?;
     write_terms(shift.terms(), out)?;
     write_end(shift.terms().len(), out)
-}
-
-fn write_end<K: Sink>(count: usize, out: &mut K) -> Result<(), Failed>
-    ensures text { Writes (K.written out.old) (K.written out.new) result (end_text count) }
-    ensures room { K.room out.new ≡ K.room out.old }
-    ensures cause { HasCause (K.faults out.old) (K.faults out.new) result }
-{
-    put_all(out, &[b"end ", Decimal::new(count as u64).digits(), b"\n"])
 }
 
 fn write_terms<K: Sink>(terms: &[Term], out: &mut K) -> Result<(), Failed>

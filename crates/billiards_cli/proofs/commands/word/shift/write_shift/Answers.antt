@@ -4,7 +4,8 @@ use Rattle.exp_sums.specs.declared.terms.Term.{Term}
 use Rattle.std.specs.Io.KnownBytes.{Appends}
 use Rattle.mcb_ends.specs.Bytes.{AppendsPrefix, Writes}
 use Rattle.mcb_ends.proofs.Written.{AppendsPrefix-begun, AppendsPrefix-then, Writes-then, Writes-failed}
-use Rattle.billiards_cli.specs.Commands.Word.{shift_text, terms_text, end_text}
+use Rattle.billiards_cli.specs.Commands.Word.{shift_text, terms_text}
+use Rattle.billiards_cli.specs.EndLine.{end_text}
 use Rattle.billiards_cli.proofs.commands.word.shift.write_shift.Goals as goal
 
 pub returns-in_err-put-clause-text : goal.returns-in_err-put-clause-text

@@ -1,6 +1,6 @@
 use Rattle.std.proofs.Common.{◌≡◌, ◌∙◌}
 use Rattle.std.specs.Fmt.{decimal}
-use Rattle.billiards_cli.proofs.commands.word.shift.write_end.Goals as goal
+use Rattle.billiards_cli.proofs.end_line.write_end.Goals as goal
 
 pub returns-clause-text : goal.returns-clause-text
 returns-clause-text g c =

@@ -1,0 +1,4 @@
+pub mod Cuts
+pub mod Prefixes
+pub mod Search
+pub mod Words
