@@ -43,10 +43,11 @@ pub returns-in_err-write_end-clause-failed : goal.returns-in_err-write_end-claus
 returns-in_err-write_end-clause-failed g c =
     let k = g.K.Sink in
     let tree = c.in_ok-tree.ensures.written in
+    let whole = is_true c.in_ok-tree.tree.is_whole c.if-not-tree.false in
     let p = err_from_is_err_and c.from_residual-in_err-write_end.result c.from_residual-in_err-write_end.ensures.1 in
     rw p.1
     (failed_in_end c.args.limit (k.written c.args.out.now) (k.written c.write_header.new.out) (k.written c.write_nodes.new.out)
-    (k.written c.write_end.new.out) c.args.header.now tree.nodes tree.begun (tree.whole (is_true c.in_ok-tree.tree.is_whole c.if-not-tree.false)) c.in_ok-write_header.ensures.text tree.text
+    (k.written c.write_end.new.out) c.args.header.now tree.nodes tree.begun (tree.whole whole) c.in_ok-write_header.ensures.text tree.text
     (subst (λ (left : ℕ). AppendsPrefix (k.written c.write_nodes.new.out) (k.written c.write_end.new.out) (with_newline (end_line left))) tree.uncovered
     c.in_err-write_end.ensures.text))
 
@@ -55,9 +56,10 @@ returns-then-left-gt0-clause-covered g c =
     let k = g.K.Sink in
     let h = c.args.header.now in
     let tree = c.in_ok-tree.ensures.written in
+    let whole = is_true c.in_ok-tree.tree.is_whole c.if-not-tree.false in
     let some : 1 ≤ c.in_ok-tree.tree.left = omega (arith, c.if-left-gt0.true) in (
       text_of (file_lines h tree.nodes),
-      record { nodes = tree.nodes; begun = tree.begun; answers = (tree.counted, tree.whole (is_true c.in_ok-tree.tree.is_whole c.if-not-tree.false), tree.uncovered, some); is_text = refl },
+      record { nodes = tree.nodes; begun = tree.begun; answers = (tree.counted, tree.whole whole, tree.uncovered, some); is_text = refl },
       wrote_whole (k.written c.args.out.now) (k.written c.write_header.new.out) (k.written c.write_nodes.new.out) (k.written c.write_end.new.out) h tree.nodes
           c.in_ok-write_header.ensures.text tree.text
           (subst (λ (left : ℕ). Appends (k.written c.write_nodes.new.out) (k.written c.write_end.new.out) (with_newline (end_line left))) tree.uncovered
@@ -68,12 +70,13 @@ pub returns-clause-covered : goal.returns-clause-covered
 returns-clause-covered g c =
     let k = g.K.Sink in
     let h = c.args.header.now in
-    let tree = c.in_ok-tree.ensures.written in (
+    let tree = c.in_ok-tree.ensures.written in
+    let whole = is_true c.in_ok-tree.tree.is_whole c.if-not-tree.false in (
       text_of (file_lines h tree.nodes),
       record {
         nodes = tree.nodes;
         begun = tree.begun;
-        answers = (tree.counted, tree.whole (is_true c.in_ok-tree.tree.is_whole c.if-not-tree.false), omega (arith, tree.uncovered, c.if-left-gt0.false));
+        answers = (tree.counted, tree.whole whole, omega (arith, tree.uncovered, c.if-left-gt0.false));
         is_text = refl;
       },
       wrote_whole (k.written c.args.out.now) (k.written c.write_header.new.out) (k.written c.write_nodes.new.out) (k.written c.write_end.new.out) h tree.nodes
