@@ -1,5 +1,6 @@
 -- How large the covering of a generated job is at most.
-use Rattle.std.proofs.Common.{◌≡◌, ℕ, zero, suc, ◌+◌, ◌-◌, ◌*◌, ◌<◌, ◌≤◌, ◌^◌, List, [], ◌∷◌, ◌++◌, length, map, take, All, Option, Some, None, refl, sym, subst, inl, inr}
+use Rattle.std.proofs.Common.{◌≡◌, ℕ, zero, suc, ◌+◌, ◌-◌, ◌*◌, ◌<◌, ◌≤◌, ◌^◌, List, [], ◌∷◌, ◌++◌, length, map, take}
+use Rattle.std.proofs.Common.{All, Option, Some, None, refl, sym, subst, inl, inr}
 use Rattle.std.proofs.Common.{arith, length-append, append_assoc, ap, ◌∙◌, lit≤, lit<, decimal, codes, count_by}
 use Rattle.std.proofs.lemmas.List.{length-take}
 use Rattle.std.proofs.lemmas.List.Elements.{All-head, All-tail, All-cons, All-nil, All-from_recursion}
@@ -153,7 +154,8 @@ header_is_short k is =
 both_sizes : (lines more : List (List ℕ)) → length (text_of (lines ++ more)) ≡ length (text_of lines) + length (text_of more)
 both_sizes lines more = ap length (text_of-append lines more) ∙ length-append (text_of lines) (text_of more)
 
-begun_size : (k : ℕ) (nodes : List Node) → IsJobNumber k → IsBegun MAX_NODES (job_heading k) nodes → length (text_of (begun_lines (job_heading k) nodes)) ≤ 5600000
+begun_size : (k : ℕ) (nodes : List Node) → IsJobNumber k → IsBegun MAX_NODES (job_heading k) nodes
+    → length (text_of (begun_lines (job_heading k) nodes)) ≤ 5600000
 begun_size k nodes is begun =
     let h = job_heading k in
     let short = each_stands IsShortNode nodes (unit_square ∷ []) begun.due (λ box n stands. short_node k box n (begun.causes box n stands)) in

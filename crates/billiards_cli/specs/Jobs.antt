@@ -15,7 +15,7 @@ pub record IsJobNumber (k : ℕ) : Type 0 where
 abbrev pub job_number : List ℕ → Option ℕ
 job_number text = at_least 1 (number_up_to 127 text)
 
--- Two sides of 3 k grid steps, a third of them on the far side of the equilateral triangle, which is the point (256, 256).
+-- Two sides of 3 k grid steps along the axes. The centre of gravity, (256, 256), is the equilateral triangle.
 abbrev pub near_side : ℕ → ℕ
 near_side k = 256 + k
 

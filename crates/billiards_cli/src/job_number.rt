@@ -4,7 +4,7 @@ ghost use Rattle.billiards_cli.specs.Jobs.{IsJobNumber, job_number, near_side, f
 use crate::number::number;
 use std::marker::Model;
 
-// The numbers of the jobs, and how far out of the grid's edges the equilateral triangle lies.
+// The numbers of the jobs, and both coordinates of the equilateral triangle, in grid steps.
 const FIRST: u32 = 1;
 
 const LAST: u32 = 127;
@@ -49,14 +49,14 @@ impl JobNumber {
         self.k
     }
 
-    /// Where the sides that meet in the right angle lie, in grid steps.
+    /// Where the two sides along the axes lie, in grid steps.
     pub(crate) fn near_side(&self) -> u32
         ensures { result ≡ near_side self.now }
     {
         MIDDLE + self.k
     }
 
-    /// Where the other ends of these sides lie.
+    /// Where they end.
     pub(crate) fn far_side(&self) -> u32
         ensures value { result ≡ far_side self.now }
         ensures is_number { IsJobNumber self.now }
