@@ -10,7 +10,7 @@ use Rattle.covering_file.specs.Verdicts.{IsRefused}
 use Rattle.covering_file.specs.declared.TheConstants.{MAX_NODES}
 use Rattle.covering_file.proofs.Sure.{sure_is_not_refused}
 use Rattle.billiards_cli.specs.Command.{By}
-use Rattle.billiards_cli.specs.Commands.Check.{ends_check, IsCheckAnswer, IsCheckDue, refusal_status}
+use Rattle.billiards_cli.specs.Commands.Check.{check_reads_to, IsCheckAnswer, IsCheckDue, refusal_status}
 use Rattle.billiards_cli.specs.Refusals.{refused_text}
 use Rattle.billiards_cli.specs.Requests.{command_of}
 use Rattle.billiards_cli.specs.Services.{IsAnswer, ReadsFor, StopsAtNamed}
@@ -35,18 +35,18 @@ check_answer_is_due input ending text answer sure = absurd answer
 
 -- a right answer is one that the command may give
 pub check_answer : (left left' : Option (List ℕ)) (input : List ℕ) (ending : Status) (text : List ℕ)
-    → MayBe left input → IsCheckAnswer input ending text → ReadsFor (By checked) (ends_check ending) text left left'
+    → MayBe left input → IsCheckAnswer input ending text → ReadsFor (By checked) (check_reads_to ending) text left left'
     → IsAnswer (command_of request.Check) left left' ending text
 check_answer left left' input ending text may_be right read =
     record { input = input; may_be = may_be; right = right; due = check_answer_is_due input ending text right; read = read }
 
 -- a refusal stops reading at its line, and goes with its status
 pub refusal_reads : (line : ℕ) (why : Reason) (left left' : Option (List ℕ)) → StopsAtNamed checked (refused_text line why) left left'
-    → ReadsFor (By checked) (ends_check (refusal_status why)) (refused_text line why) left left'
-refusal_reads line NotApart left left' stops = inl stops
-refusal_reads line NotShown left left' stops = inl stops
-refusal_reads line Uncovered left left' stops = inl stops
-refusal_reads line why left left' stops = inl stops
+    → ReadsFor (By checked) (check_reads_to (refusal_status why)) (refused_text line why) left left'
+refusal_reads line NotApart left left' stops = stops
+refusal_reads line NotShown left left' stops = stops
+refusal_reads line Uncovered left left' stops = stops
+refusal_reads line why left left' stops = stops
 
 pub refusal_answer : (input : List ℕ) (line : ℕ) (why : Reason) → IsRefused MAX_NODES line why input
     → IsCheckAnswer input (refusal_status why) (refused_text line why)

@@ -14,7 +14,7 @@ use Rattle.coverer.specs.Begun.{IsCover}
 use Rattle.coverer.specs.declared.answer.Covered.{Covered}
 use Rattle.coverer.proofs.Sure.{complete_is_sure_lem}
 use Rattle.billiards_cli.specs.Command.{By}
-use Rattle.billiards_cli.specs.Commands.Cover.{IsJobText, IsRefusedJob, CoversJob, IsCoverAnswer, IsCoverDue, ends_cover}
+use Rattle.billiards_cli.specs.Commands.Cover.{IsJobText, IsRefusedJob, CoversJob, IsCoverAnswer, IsCoverDue, cover_reads_to}
 use Rattle.billiards_cli.specs.Laws.{CompleteIsAccepted}
 use Rattle.billiards_cli.specs.Requests.{command_of}
 use Rattle.billiards_cli.specs.Services.{IsAnswer, ReadsFor}
@@ -49,7 +49,7 @@ cover_answer_is_due input Usage text no_fault answer = absurd answer
 
 -- a right answer is one that the command may give
 pub cover_answer : (left left' : Option (List ℕ)) (input : List ℕ) (status : Status) (text : List ℕ) → IsNoFault status
-    → MayBe left input → IsCoverAnswer input status text → ReadsFor (By job_part.grammar) (ends_cover status) text left left'
+    → MayBe left input → IsCoverAnswer input status text → ReadsFor (By job_part.grammar) (cover_reads_to status) text left left'
     → IsAnswer (command_of request.Cover) left left' status text
 cover_answer left left' input status text no_fault may_be right read =
     record { input = input; may_be = may_be; right = right; due = cover_answer_is_due input status text no_fault right; read = read }

@@ -13,7 +13,7 @@ use Rattle.line_grammar.specs.declared.reason.Reason.{Reason}
 use Rattle.line_grammar.proofs.Laws.{Any, line_is_one, line_never, line_offence_is_one, text_never, text_offence_is_one}
 use Rattle.billiards_cli.specs.Arguments.{any_word}
 use Rattle.billiards_cli.specs.Command.{By}
-use Rattle.billiards_cli.specs.Commands.Word.{ends_word, word_input, IsWordLine, IsRefusedWord, IsWordAnswer, IsWordDue, IsWordText, unstable_text}
+use Rattle.billiards_cli.specs.Commands.Word.{word_reads_to, word_input, IsWordLine, IsRefusedWord, IsWordAnswer, IsWordDue, IsWordText, unstable_text}
 use Rattle.billiards_cli.specs.Requests.{command_of}
 use Rattle.billiards_cli.specs.Services.{IsAnswer, ReadsFor}
 use Rattle.billiards_cli.specs.declared.request.Request.TheVariants as request
@@ -43,7 +43,7 @@ word_answer_is_due input status text answer = absurd answer
 
 -- a right answer is one that the command may give
 pub word_answer : (left left' : Option (List ℕ)) (input : List ℕ) (status : Status) (text : List ℕ)
-    → MayBe left input → IsWordAnswer input status text → ReadsFor (By word_input.grammar) (ends_word status) text left left'
+    → MayBe left input → IsWordAnswer input status text → ReadsFor (By word_input.grammar) (word_reads_to status) text left left'
     → IsAnswer (command_of request.Word) left left' status text
 word_answer left left' input status text may_be right read =
     record { input = input; may_be = may_be; right = right; due = word_answer_is_due input status text right; read = read }

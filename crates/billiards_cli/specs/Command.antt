@@ -8,14 +8,20 @@ pub data Reading : Type 1 where
   Nothing : Reading
   By : Grammar → Reading
 
+-- how much of its input a command reads for an answer: all of it, or what comes before a line that is due, or either
+pub data Extent : Type 0 where
+  ToTheEnd : Extent
+  ToALine : Extent
+  ToEither : Extent
+
 abbrev pub reads_input : Reading → Bool
 reads_input Nothing = false
 reads_input (By g) = true
 
 pub record Command : Type 1 where
   pub reads : Reading
-  -- the statuses with which it has come to the end of the input
-  pub ends : Status → Bool
+  -- how much of the input it has read with a status
+  pub reads_to : Status → Extent
   -- the right answers to an input: a status and a text
   pub IsRight : List ℕ → Status → List ℕ → Type 0
   -- the statuses that it may have on an input where nothing outside fails

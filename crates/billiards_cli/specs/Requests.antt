@@ -1,16 +1,16 @@
 -- What the arguments of a command line ask for.
-use Rattle.std.specs.Prelude.{ℕ, List, [], ◌∷◌, None, false, codes, if◌then◌else◌}
+use Rattle.std.specs.Prelude.{ℕ, List, [], ◌∷◌, None, codes, if◌then◌else◌}
 use Rattle.std.specs.declared.option.Option.{Option}
 use Rattle.std.specs.Str.{bytes_eq}
 use Rattle.covering_file.specs.CheckClaims.{check_claims}
 use Rattle.covering_file.specs.FilePart.{file_grammar}
 use Rattle.covering_file.specs.HeaderPart.{job_part}
 use Rattle.covering_file.specs.declared.TheConstants.{MAX_NODES}
-use Rattle.billiards_cli.specs.Command.{Command, Nothing, By}
-use Rattle.billiards_cli.specs.Commands.Word.{word_request, word_input, ends_word, IsWordAnswer, IsWordDue}
-use Rattle.billiards_cli.specs.Commands.Check.{check_request, ends_check, IsCheckAnswer, IsCheckDue}
+use Rattle.billiards_cli.specs.Command.{Command, Nothing, By, ToALine}
+use Rattle.billiards_cli.specs.Commands.Word.{word_request, word_input, word_reads_to, IsWordAnswer, IsWordDue}
+use Rattle.billiards_cli.specs.Commands.Check.{check_request, check_reads_to, IsCheckAnswer, IsCheckDue}
 use Rattle.billiards_cli.specs.Commands.At.{at_request, IsAtAnswer, IsAtDue}
-use Rattle.billiards_cli.specs.Commands.Cover.{cover_request, ends_cover, IsCoverAnswer, IsCoverDue}
+use Rattle.billiards_cli.specs.Commands.Cover.{cover_request, cover_reads_to, IsCoverAnswer, IsCoverDue}
 use Rattle.billiards_cli.specs.Commands.Job.{job_request, IsJobAnswer, IsJobDue}
 use Rattle.billiards_cli.specs.Commands.Demo.{demo_request, IsDemoAnswer, IsDemoDue}
 use Rattle.billiards_cli.specs.Commands.Search.{search_request, IsSearchAnswer, IsSearchDue}
@@ -37,43 +37,43 @@ request_of (name ∷ arguments) = request_named name arguments
 abbrev pub command_of : Request → Command
 command_of Word = record {
   reads = By word_input.grammar;
-  ends = ends_word;
+  reads_to = word_reads_to;
   IsRight = IsWordAnswer;
   IsDue = IsWordDue;
 }
 command_of Check = record {
   reads = By (file_grammar check_claims MAX_NODES);
-  ends = ends_check;
+  reads_to = check_reads_to;
   IsRight = IsCheckAnswer;
   IsDue = IsCheckDue;
 }
 command_of (At word triangle) = record {
   reads = Nothing;
-  ends = λ status. false;
+  reads_to = λ status. ToALine;
   IsRight = λ input. IsAtAnswer word triangle;
   IsDue = λ input. IsAtDue word triangle;
 }
 command_of Cover = record {
   reads = By job_part.grammar;
-  ends = ends_cover;
+  reads_to = cover_reads_to;
   IsRight = IsCoverAnswer;
   IsDue = IsCoverDue;
 }
 command_of (Job k) = record {
   reads = Nothing;
-  ends = λ status. false;
+  reads_to = λ status. ToALine;
   IsRight = λ input. IsJobAnswer k;
   IsDue = λ input. IsJobDue;
 }
 command_of (Demo k) = record {
   reads = Nothing;
-  ends = λ status. false;
+  reads_to = λ status. ToALine;
   IsRight = λ input. IsDemoAnswer k;
   IsDue = λ input. IsDemoDue;
 }
 command_of (Search triangle bound) = record {
   reads = Nothing;
-  ends = λ status. false;
+  reads_to = λ status. ToALine;
   IsRight = λ input. IsSearchAnswer triangle bound;
   IsDue = λ input. IsSearchDue;
 }

@@ -1,5 +1,5 @@
 -- What a run of a command does to its source and its sink.
-use Rattle.std.specs.Prelude.{◌≡◌, ◌≢◌, ◌⊎◌, ℕ, ◌+◌, Bool, true, false, List, [], length, ⊤}
+use Rattle.std.specs.Prelude.{◌≡◌, ◌≢◌, ◌⊎◌, ℕ, ◌+◌, List, [], length, ⊤}
 use Rattle.std.specs.declared.option.Option.{Option}
 use Rattle.std.specs.declared.result.Result.{Result}
 use Rattle.std.specs.declared.result.Result.TheVariants.{Ok, Err}
@@ -10,7 +10,7 @@ use Rattle.line_grammar.specs.Input.{MayBe}
 use Rattle.line_grammar.specs.Offence.{Grammar}
 use Rattle.line_grammar.specs.declared.reason.Reason.{Reason}
 use Rattle.line_grammar.specs.Reading.{EndsAt}
-use Rattle.billiards_cli.specs.Command.{Reading, Nothing, By, Command}
+use Rattle.billiards_cli.specs.Command.{Reading, Nothing, By, Extent, ToTheEnd, ToALine, ToEither, Command}
 use Rattle.billiards_cli.specs.Refusals.{refused_text}
 use Rattle.billiards_cli.specs.Streams.{Streams}
 use Rattle.billiards_cli.specs.declared.status.Status.{Status}
@@ -29,11 +29,12 @@ pub record StopsAtNamed (g : Grammar) (text : List ℕ) (left left' : Option (Li
   pub named : MayName text (length (g.lines_before due) + 1)
   pub ends : EndsAt g due left left'
 
--- an answer was read for: to the end of the input, or as far as the line that it names; an empty text either way
-abbrev pub ReadsFor : Reading → Bool → List ℕ → Option (List ℕ) → Option (List ℕ) → Type 0
-ReadsFor Nothing ends text left left' = ⊤
-ReadsFor (By g) true text left left' = IsAtEnd left'
-ReadsFor (By g) false text left left' = StopsAtNamed g text left left' ⊎ ((text ≡ []) × IsAtEnd left')
+-- an answer was read for: to the end of the input, or as far as the line that it names
+abbrev pub ReadsFor : Reading → Extent → List ℕ → Option (List ℕ) → Option (List ℕ) → Type 0
+ReadsFor Nothing extent text left left' = ⊤
+ReadsFor (By g) ToTheEnd text left left' = IsAtEnd left'
+ReadsFor (By g) ToALine text left left' = StopsAtNamed g text left left'
+ReadsFor (By g) ToEither text left left' = StopsAtNamed g text left left' ⊎ IsAtEnd left'
 
 -- a read failed: at some due line
 abbrev pub FailsIn : Reading → Option (List ℕ) → Option (List ℕ) → Type 0
@@ -49,7 +50,7 @@ pub record IsAnswer (command : Command) (left left' : Option (List ℕ)) (status
   pub may_be : MayBe left input
   pub right : command.IsRight input status text
   pub due : command.IsDue input status
-  pub read : ReadsFor command.reads (command.ends status) text left left'
+  pub read : ReadsFor command.reads (command.reads_to status) text left left'
 
 -- the whole text of a right answer was written
 pub record WritesAnswer (command : Command) (before after : Streams) (status : Status) : Type 0 where
@@ -66,7 +67,7 @@ pub record BeginsAnswer (command : Command) (before after : Streams) : Type 0 wh
   pub may_be : MayBe before.left input
   pub right : command.IsRight input status text
   pub due : status ≢ WriteFault → command.IsDue input status
-  pub read : ReadsFor command.reads (command.ends status) text before.left after.left
+  pub read : ReadsFor command.reads (command.reads_to status) text before.left after.left
   pub begun : AppendsPrefix before.written after.written text
 
 -- memory was wanting, where that is a right answer, and nothing was written

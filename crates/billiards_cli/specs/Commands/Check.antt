@@ -1,5 +1,5 @@
 -- The command `check`: the verdict on a covering file that is read from the input.
-use Rattle.std.specs.Prelude.{◌≡◌, ◌⊎◌, ℕ, List, [], ◌∷◌, codes, Some, None, Bool, true, false}
+use Rattle.std.specs.Prelude.{◌≡◌, ◌⊎◌, ℕ, List, [], ◌∷◌, codes, Some, None}
 use Rattle.std.specs.declared.option.Option.{Option}
 use Rattle.std.specs.List.{concat}
 use Rattle.std.specs.Fmt.{decimal}
@@ -11,6 +11,7 @@ use Rattle.line_grammar.specs.Text.{BeginsWith}
 use Rattle.covering_file.specs.Verdicts.{IsAccepted, IsRefused, IsSureFile}
 use Rattle.billiards_cli.specs.Refusals.{newline, RefusesLine}
 use Rattle.covering_file.specs.declared.TheConstants.{MAX_NODES}
+use Rattle.billiards_cli.specs.Command.{Extent, ToTheEnd, ToALine}
 use Rattle.billiards_cli.specs.declared.request.Request.{Request}
 use Rattle.billiards_cli.specs.declared.request.Request.TheVariants as request
 use Rattle.billiards_cli.specs.declared.status.Status.{Status}
@@ -60,6 +61,6 @@ abbrev pub IsCheckDue : List ℕ → Status → Type 0
 IsCheckDue input status = IsSureFile MAX_NODES input → (status ≡ Done) ⊎ (status ≡ OutOfMemory)
 
 -- it accepts a file at the end of the input
-abbrev pub ends_check : Status → Bool
-ends_check Done = true
-ends_check status = false
+abbrev pub check_reads_to : Status → Extent
+check_reads_to Done = ToTheEnd
+check_reads_to status = ToALine

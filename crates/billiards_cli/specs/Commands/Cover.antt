@@ -1,5 +1,5 @@
 -- The command `cover`: a covering file for a job that is read from the input.
-use Rattle.std.specs.Prelude.{◌≡◌, ◌⊎◌, ℕ, List, [], ◌∷◌, Some, None, Bool, true, false, ⊤}
+use Rattle.std.specs.Prelude.{◌≡◌, ◌⊎◌, ℕ, List, [], ◌∷◌, Some, None, ⊤}
 use Rattle.std.specs.declared.option.Option.{Option}
 use Rattle.line_grammar.specs.Offence.{IsFirstOffence}
 use Rattle.line_grammar.specs.Text.{BeginsWith}
@@ -12,6 +12,7 @@ use Rattle.coverer.specs.Begun.{IsCover, IsBegunText}
 use Rattle.coverer.specs.declared.answer.Covered.{Covered}
 use Rattle.coverer.specs.declared.answer.Covered.TheVariants as covered
 use Rattle.billiards_cli.specs.Refusals.{RefusesLine}
+use Rattle.billiards_cli.specs.Command.{Extent, ToTheEnd, ToALine, ToEither}
 use Rattle.billiards_cli.specs.declared.request.Request.{Request}
 use Rattle.billiards_cli.specs.declared.request.Request.TheVariants as request
 use Rattle.billiards_cli.specs.declared.status.Status.{Status}
@@ -78,10 +79,11 @@ pub record IsCoverDue (input : List ℕ) (status : Status) : Type 0 where
   pub covered : (h : Heading) → IsJobText input h → EndsJob status
   pub refused : ¬ ((h : Heading) × IsJobText input h) → (status ≡ Malformed) ⊎ (status ≡ OutOfMemory)
 
--- it writes a covering only at the end of the input
-abbrev pub ends_cover : Status → Bool
-ends_cover Done = true
-ends_cover NotShown = true
-ends_cover Full = true
-ends_cover WriteFault = true
-ends_cover status = false
+-- it writes a covering only at the end of the input, and may want memory before that or there
+abbrev pub cover_reads_to : Status → Extent
+cover_reads_to Done = ToTheEnd
+cover_reads_to NotShown = ToTheEnd
+cover_reads_to Full = ToTheEnd
+cover_reads_to WriteFault = ToTheEnd
+cover_reads_to OutOfMemory = ToEither
+cover_reads_to status = ToALine

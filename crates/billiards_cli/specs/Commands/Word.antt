@@ -1,5 +1,5 @@
 -- The command `word`: the shift of a word that is read from the input.
-use Rattle.std.specs.Prelude.{◌≡◌, ◌⊎◌, ℕ, List, [], ◌∷◌, ◌++◌, length, codes, Some, None, Bool, true, false}
+use Rattle.std.specs.Prelude.{◌≡◌, ◌⊎◌, ℕ, List, [], ◌∷◌, ◌++◌, length, codes, Some, None}
 use Rattle.std.specs.declared.option.Option.{Option}
 use Rattle.std.specs.declared.result.Result.{Result}
 use Rattle.std.specs.List.{concat, flat_map}
@@ -16,6 +16,7 @@ use Rattle.line_grammar.specs.declared.reason.Reason.{Reason}
 use Rattle.billiards_cli.specs.Arguments.{any_word}
 use Rattle.billiards_cli.specs.EndLine.{end_text}
 use Rattle.billiards_cli.specs.Refusals.{newline, RefusesLine}
+use Rattle.billiards_cli.specs.Command.{Extent, ToTheEnd, ToALine}
 use Rattle.billiards_cli.specs.declared.request.Request.{Request}
 use Rattle.billiards_cli.specs.declared.request.Request.TheVariants as request
 use Rattle.billiards_cli.specs.declared.status.Status.{Status}
@@ -86,11 +87,11 @@ pub record IsWordDue (input : List ℕ) (status : Status) : Type 0 where
   pub done : (w : List ℕ) → IsWordLine input w → (status ≡ Done) ⊎ (status ≡ OutOfMemory)
   pub refused : ¬ ((w : List ℕ) × IsWordLine input w) → status ≡ Malformed
 
--- it answers a word at the end of the input
-abbrev pub ends_word : Status → Bool
-ends_word Done = true
-ends_word OutOfMemory = true
-ends_word status = false
+-- it answers a word at the end of the input, and wants memory there
+abbrev pub word_reads_to : Status → Extent
+word_reads_to Done = ToTheEnd
+word_reads_to OutOfMemory = ToTheEnd
+word_reads_to status = ToALine
 
 -- ---- its steps
 

@@ -56,7 +56,7 @@ returns-in-Err-Memory-clause-serves g c =
     let read : StopsAtNamed checked [] (s.left c.args.src.now) (s.left c.check.new.src) = record { due = stops.0; named = inl refl; ends = stops.1 } in
     record {
       leaves = record {
-        answer = check_answer (s.left c.args.src.now) (s.left c.check.new.src) begins.0 OutOfMemory [] begins.1 right (inl read);
+        answer = check_answer (s.left c.args.src.now) (s.left c.check.new.src) begins.0 OutOfMemory [] begins.1 right read;
         unwritten = refl;
       };
       counts = (rw c.in-Err-Memory.field-0-is at c.in-Err-Memory.ensures.cause, refl);

@@ -30,7 +30,7 @@ returns-in-Err-Line-clause-serves g c =
     let text = refused_text line reason in
     let right : RefusesLine (IsRefusedJob names.input) text = record { line = line; reason = reason; refused = names.first; named = refl } in
     served _ _ _ Malformed _ text c.write_refusal.result tt
-    (cover_answer left left' names.input Malformed text tt names.may_be right (inl names.stops))
+    (cover_answer left left' names.input Malformed text tt names.may_be right names.stops)
     (rw c.in-Err-Line.field-0-is at c.in-Err-Line.ensures.cause)
     (rw c.in-Err-Line.field-0-is at c.write_refusal.ensures.text) c.write_refusal.ensures.cause c.after_writing.ensures.after
 

@@ -63,7 +63,7 @@ returns-in-Err-Memory-clause-serves g c = λ left left' faults faults' may_be en
     let right : CoverWantsMemory (job_text h) [] = record { begins = job_begins h; text_is = refl } in
     record {
       leaves = record {
-        answer = cover_answer left left' (job_text h) OutOfMemory [] tt may_be right (inr (refl, end));
+        answer = cover_answer left left' (job_text h) OutOfMemory [] tt may_be right (inr end);
         unwritten = rw c.in-Err-Memory.field-0-is at c.in-Err-Memory.ensures.text;
       };
       counts = (stood, rw c.in-Err-Memory.field-0-is at c.in-Err-Memory.ensures.cause);

@@ -1,4 +1,4 @@
-use Rattle.std.proofs.Common.{refl, inl}
+use Rattle.std.proofs.Common.{refl}
 use Rattle.billiards_cli.specs.Commands.Word.{word_input, IsRefusedWord}
 use Rattle.billiards_cli.specs.Refusals.{refused_text, RefusesLine}
 use Rattle.billiards_cli.specs.declared.status.Status.TheVariants.{Malformed}
@@ -25,7 +25,7 @@ returns-in-Err-Line-clause-serves g c =
     let text = refused_text line reason in
     let right : RefusesLine (IsRefusedWord names.input) text = record { line = line; reason = reason; refused = names.first; named = refl } in
     served _ _ _ Malformed _ text c.write_refusal.result tt
-    (word_answer left left' names.input Malformed text names.may_be right (inl names.stops))
+    (word_answer left left' names.input Malformed text names.may_be right names.stops)
     (rw c.in-Err-Line.field-0-is at c.in-Err-Line.ensures.cause)
     (rw c.in-Err-Line.field-0-is at c.write_refusal.ensures.text) c.write_refusal.ensures.cause c.after_writing.ensures.after
 
