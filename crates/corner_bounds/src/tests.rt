@@ -5,17 +5,18 @@ use pi_bounds::Fine;
 use rational_polygon::GridBox;
 use std::test::Fail;
 
-fn place(i: u32, j: u32) -> GridBox {
-    GridBox { i, j, level: 10 }
-}
-
 // Near the rim of the tile of 123123 the corners show what the centre does not.
 #[test]
 fn sees_more_than_the_centre(rt: HostRuntime) -> Result<(), Fail> {
     let word = Word::read(rt.alloc(), b"123123")?;
     let mut prepared = Prepared::<Fine>::new(rt.alloc(), &word)?;
-    assert!(rt; !prepared.test_box(place(510, 256)));
-    assert!(rt; test_corners::<Fine>(&mut prepared, place(510, 256), 36));
+    let place = GridBox {
+        i: 510,
+        j: 256,
+        level: 10,
+    };
+    assert!(rt; !prepared.test_box(place));
+    assert!(rt; test_corners::<Fine>(&mut prepared, place, 36));
     assert!(rt; prepared.point().is_some());
     assert!(rt; prepared.word().letters() == word.letters());
     Ok(())
@@ -25,6 +26,11 @@ fn sees_more_than_the_centre(rt: HostRuntime) -> Result<(), Fail> {
 fn sees_nothing_outside_the_tile(rt: HostRuntime) -> Result<(), Fail> {
     let word = Word::read(rt.alloc(), b"123123")?;
     let mut prepared = Prepared::<Fine>::new(rt.alloc(), &word)?;
-    assert!(rt; !test_corners::<Fine>(&mut prepared, place(100, 100), 36));
+    let place = GridBox {
+        i: 100,
+        j: 100,
+        level: 10,
+    };
+    assert!(rt; !test_corners::<Fine>(&mut prepared, place, 36));
     Ok(())
 }
