@@ -17,7 +17,7 @@ answer_is_due : (command : Command) (left left' : Option (List ℕ)) (status : S
 answer_is_due command left left' status text answer =
     record { input = answer.input; may_be = answer.may_be; due = answer.due }
 
-decided : (command : Command) (before after : Streams) (status : Status) → Serves command before after status → MeetNoFault before after
+pub decided : (command : Command) (before after : Streams) (status : Status) → Serves command before after status → MeetNoFault before after
     → IsDecided command before.left status
 decided command before after Done serves stood = answer_is_due command before.left after.left Done serves.leaves.text serves.leaves.answer
 decided command before after NotShown serves stood = answer_is_due command before.left after.left NotShown serves.leaves.text serves.leaves.answer

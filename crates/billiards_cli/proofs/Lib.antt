@@ -1,5 +1,6 @@
 pub mod Serving
 pub mod Deciding
+pub mod PassingOn
 pub mod Headlines
 pub mod Numbers
 pub mod Triangles

@@ -71,5 +71,6 @@ fn status_without_arguments(kind: io::ErrorKind) -> Status {
 fn run_over_streams(rt: &HostRuntime, arguments: &Args) -> Status {
     let mut source = StdSource::new(rt.stdin());
     let sink = StdSink::new(rt.stdout());
-    blocks::run_in_blocks(rt.alloc(), arguments, &mut source, sink)
+    let (_sink, status) = blocks::run_in_blocks(rt.alloc(), arguments, &mut source, sink);
+    status
 }

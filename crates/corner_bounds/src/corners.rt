@@ -22,7 +22,7 @@ use rational_polygon::GridBox;
 /// true only where each function exceeds its sag at each corner by its margin with the slack `2^-low`, and true wherever
 /// each does with one sixteen times as wide. The table is filled at corners of the box.
 pub fn test_corners<S: Scale>(p: &mut Prepared<S>, place: GridBox, low: u32) -> bool
-    requires level { 10 ≤ place.level }
+    requires deep { 10 ≤ place.level }
     requires low_least { 12 ≤ low }
     requires low_most { low ≤ 40 }
     requires room { low + 8 ≤ S.BITS }

@@ -20,7 +20,7 @@ pub struct Gathered<K: Sink, B: Before> {
 }
 
 impl<K: Sink, B: Before> Gathered<K, B> {
-    ghost use Rattle.std.specs.Prelude.{◌≡◌, ◌+◌, ◌<◌, ◌≤◌, ◌++◌, List, ℕ, length, OnOk};
+    ghost use Rattle.std.specs.Prelude.{◌≡◌, ◌+◌, ◌<◌, ◌≤◌, ◌++◌, [], List, ℕ, length, IsOk, OnOk};
     ghost use Rattle.std.specs.Io.KnownBytes.{Appends, Keeps};
     ghost use Rattle.mcb_ends.specs.Bytes.{Writes};
     ghost use Rattle.mcb_ends.specs.Causes.{HasCause};
@@ -30,6 +30,7 @@ impl<K: Sink, B: Before> Gathered<K, B> {
     pub fn new(out: K) -> Gathered<K, B>
         requires { K.written out ≡ B.taken }
         ensures sink { gathered_sink result ≡ out }
+        ensures held { gathered_held result ≡ [] }
         ensures written { gathered_written K.written result ≡ K.written out }
     {
         Gathered {
@@ -40,10 +41,11 @@ impl<K: Sink, B: Before> Gathered<K, B> {
         }
     }
 
-    /// Passes on all that it holds, or a prefix of it and fails.
+    /// Passes on all that it holds, or a prefix of it and fails. Where it holds nothing, it leaves its sink alone.
     pub fn flush(&mut self) -> Result<(), Failed>
         ensures written { Keeps (gathered_written K.written self.old) (gathered_written K.written self.new) }
         ensures all { OnOk result (Keeps (gathered_written K.written self.old) (K.written (gathered_sink self.new))) }
+        ensures idle { gathered_held self.old ≡ [] → IsOk result × (gathered_sink self.new ≡ gathered_sink self.old) }
         ensures room { K.room (gathered_sink self.new) ≡ K.room (gathered_sink self.old) }
         ensures cause { HasCause (K.faults (gathered_sink self.old)) (K.faults (gathered_sink self.new)) result }
     {
@@ -54,10 +56,12 @@ impl<K: Sink, B: Before> Gathered<K, B> {
     }
 
     /// Passes on all that it holds, or a prefix of it and fails, and gives its sink back. So of the
-    /// text that was written from the start its sink has all, or a prefix.
+    /// text that was written from the start its sink has all, or a prefix. Where it holds nothing, it gives its sink
+    /// back as it was.
     pub fn finish(mut self) -> (K, Result<(), Failed>)
         ensures text { (text : List ℕ) → Appends B.taken (gathered_written K.written self) text
             → Writes B.taken (K.written result.0) result.1 text }
+        ensures idle { gathered_held self ≡ [] → (result.0 ≡ gathered_sink self) × IsOk result.1 }
         ensures room { K.room result.0 ≡ K.room (gathered_sink self) }
         ensures cause { HasCause (K.faults (gathered_sink self)) (K.faults result.0) result.1 }
     {

@@ -26,7 +26,7 @@ returns-clause-found g c = λ clear. c.is_clear_at-4.ensures.found
 pub returns-clause-clear : goal.returns-clause-clear
 returns-clause-clear g c = λ h.
     clear_at_four c.args.place (slack c.args.low) c.args.p.now.word c.is_clear_at.new.p.word c.is_clear_at-2.new.p.word c.is_clear_at-3.new.p.word
-    (record { first = c.is_clear_at.ensures.word; second = c.is_clear_at-2.ensures.word; third = c.is_clear_at-3.ensures.word }) c.requires.level
+    (record { first = c.is_clear_at.ensures.word; second = c.is_clear_at-2.ensures.word; third = c.is_clear_at-3.ensures.word }) c.requires.deep
     c.is_clear_at.ensures.is_word c.is_clear_at.ensures.shift (c.if-not-is_clear_at.ensures.clear refl) (c.if-not-is_clear_at-2.ensures.clear refl)
     (c.if-not-is_clear_at-3.ensures.clear refl) (c.is_clear_at-4.ensures.clear h)
 
@@ -34,6 +34,6 @@ pub returns-clause-corridor : goal.returns-clause-corridor
 returns-clause-corridor g c = λ h.
     corner_gives_corridor_lem c.args.p.now.word c.args.place (slack c.args.low) c.is_clear_at.ensures.is_word (slack_enough c.args.low c.requires.low_most)
     (clear_at_four c.args.place (slack c.args.low) c.args.p.now.word c.is_clear_at.new.p.word c.is_clear_at-2.new.p.word c.is_clear_at-3.new.p.word
-    (record { first = c.is_clear_at.ensures.word; second = c.is_clear_at-2.ensures.word; third = c.is_clear_at-3.ensures.word }) c.requires.level
+    (record { first = c.is_clear_at.ensures.word; second = c.is_clear_at-2.ensures.word; third = c.is_clear_at-3.ensures.word }) c.requires.deep
     c.is_clear_at.ensures.is_word c.is_clear_at.ensures.shift (c.if-not-is_clear_at.ensures.clear refl) (c.if-not-is_clear_at-2.ensures.clear refl)
     (c.if-not-is_clear_at-3.ensures.clear refl) (c.is_clear_at-4.ensures.clear h))
