@@ -10,7 +10,7 @@ use Rattle.directed_fixed.specs.Rounding.{IsCeiling}
 use Rattle.directed_fixed.specs.Ends.{Encloses}
 use Rattle.directed_fixed.proofs.Rounding.{product_size, rounded_size, rounded_not_larger}
 use Rattle.directed_fixed.proofs.PiSums.{pi_units, pi_size}
-use Rattle.gradient_bounds.proofs.Turning.{fits_128}
+use Rattle.sine_fixed.proofs.Turning.{fits_128}
 use Rattle.gradient_bounds.proofs.Computed.{pi_at_least, is_its_size}
 use Rattle.corner_bounds.specs.Sag.{IsSag}
 

@@ -15,7 +15,7 @@ use Rattle.directed_fixed.proofs.PiSums.{pi_units, pi_size}
 use Rattle.gradient_bounds.specs.declared.neighbourhood.Neighbourhood.{Neighbourhood}
 use Rattle.gradient_bounds.specs.Neighbourhood.{IsNeighbourhood}
 use Rattle.gradient_bounds.specs.Decision.{rounded_up, drift_units, margin_units}
-use Rattle.gradient_bounds.proofs.Turning.{fits_128}
+use Rattle.sine_fixed.proofs.Turning.{fits_128}
 
 -- ---- the drift
 

@@ -5,7 +5,6 @@ pub mod Largest
 pub mod Passing
 pub mod Numbers
 pub mod Deciding
-pub mod Turning
 pub mod Refusals
 pub mod Boxes
 pub mod Within

@@ -2,19 +2,14 @@
 use Rattle.std.proofs.Common.{◌≡◌, refl, sym, ap, ◌∙◌, subst, subst₂, ℕ, zero, suc, ◌+◌, ◌*◌, ◌^◌, ◌<◌, ◌≤◌, List, [], ◌∷◌, ◌++◌, map, length, get_or}
 use Rattle.std.proofs.Common.{Bool, true, false, if◌then◌else◌, ℤ, pos, ◌+ℤ◌, ◌-ℤ◌, ◌*ℤ◌, ◌≤ℤ◌, unsigned_abs, arith, inl, inr}
 use Rattle.std.proofs.Common.{take, set, FitsSigned, to_z, of_z}
-use Rattle.std.specs.Int.{w64, w128, int_min, int_max}
+use Rattle.std.specs.Int.{w64, w128}
 use Rattle.std.specs.List.{All, Any, AllWithin}
-use Rattle.std.proofs.Math.Pow.{pow_mono}
-use Rattle.std.proofs.lemmas.Int.{ints, clamps, to_z-of_z, fits_signed_from_abs}
-use Rattle.std.proofs.lemmas.List.{get_or_default, take_more}
-use Rattle.std.proofs.lemmas.List.Sums.{sum_by-take-le, sum_by_more_le}
+use Rattle.std.proofs.lemmas.Int.{ints, to_z-of_z, fits_signed_from_abs}
+use Rattle.std.proofs.lemmas.List.{get_or_default}
+use Rattle.std.proofs.lemmas.List.Sums.{sum_by_more_le}
 use Rattle.std.proofs.lemmas.List.Elements.{All-head, All-tail, All-append, All-map, All-weaker, All-get_or, All-set, AllWithin-more_set}
-use Rattle.ring_solver.specs.Expression.{num, ◌⊞◌, ◌⊠◌}
-use Rattle.ring_solver.proofs.Solver.{ring₁, ring₂}
 use Rattle.ring_solver.proofs.Whole.{ℤ_ring, ℤ_image}
-use Rattle.rat_core.specs.Fraction.{ℚ, ◌÷◌, whole, ◌+ℚ◌, ◌*ℚ◌, ◌≤ℚ◌}
-use Rattle.rat_core.proofs.Laws.{ℚ_ring, le_refl, le_trans}
-use Rattle.rat_core.proofs.Order.{int_le}
+use Rattle.rat_core.specs.Fraction.{ℚ}
 use Rattle.edge_words.specs.Letters.{IsPlace}
 use Rattle.exp_sums.specs.declared.direction.Dir.{Dir}
 use Rattle.exp_sums.specs.declared.terms.Term.{Term}
@@ -26,23 +21,20 @@ use Rattle.exp_sums.specs.Limits.{terms_weight, IsNear}
 use Rattle.exp_sums.specs.Weigh.{weigh_terms}
 use Rattle.exp_sums.proofs.Directions.{is_same_dir-Decides}
 use Rattle.exp_sums.proofs.Numbers.{weighing_linear}
-use Rattle.exp_sums.proofs.Weigh.{weigh_terms-append}
-use Rattle.exp_sums.proofs.Weights.{terms_weight-cons}
 use Rattle.exp_sums.proofs.Within.{dirs-point_of}
 use Rattle.trig_meaning.specs.FromSomeOn.{FromSomeOn}
 use Rattle.trig_meaning.specs.Turn.{sine_of_turn}
 use Rattle.trig_meaning.specs.Value.{turn_of, value_at}
-use Rattle.trig_meaning.proofs.FromSomeOnLaws.{always, onward, onward_both}
+use Rattle.trig_meaning.proofs.FromSomeOnLaws.{onward}
 use Rattle.unfolding.specs.Shift.{IsShift}
-use Rattle.directed_fixed.specs.Ends.{Ends, Encloses, IsWithin, sum_of, multiple_of}
+use Rattle.directed_fixed.specs.Ends.{Ends, Encloses}
 use Rattle.sine_fixed.specs.ReferenceAngle.{ReferenceAngle, sine_of}
-use Rattle.directed_fixed.proofs.Rounding.{product_size}
-use Rattle.directed_fixed.proofs.Enclosing.{sum_encloses, multiple_encloses}
 use Rattle.defining_functions.specs.Functions.{defining_function}
 use Rattle.defining_functions.specs.Heights.{upper_height, lower_height}
 use Rattle.defining_functions.proofs.Differences.{function_difference}
 use Rattle.gradient_bounds.specs.declared.sine_low.SineLow.{SineLow}
-use Rattle.gradient_bounds.specs.Angles.{value_of_terms}
+use Rattle.sine_fixed.proofs.Turning.{fits_128}
+use Rattle.sine_fixed.proofs.Weighing.{IsFrom, IsStep, sum_of_first, step_exactly, from_low, wider, sum_near}
 use Rattle.gradient_bounds.specs.Table.{IsRising, IsTableOf, IsLowAt, low_in, number_in, bounds_in}
 use Rattle.gradient_bounds.specs.Kept.{IsSmallEntry}
 
@@ -92,14 +84,10 @@ low_read table d i x rising small below is =
     let size = (All-get_or IsSmallEntry table i x below small).low in
     to_z-of_z w128 (get_or table i x).low (fits_signed_from_abs w128 (get_or table i x).low (omega (arith, size))) ∙ low_at_place table d i x rising below is
 
--- from a number to 256 more
-abbrev pub from_low : ℤ → Ends
-from_low z = record { lo = z; hi = z +ℤ pos 256 }
-
 module _ (bits : ℕ) (x y : ℚ) where
   -- the sine of a direction lies above a number, and at most 256 above it
   abbrev pub IsSineFrom : ℤ → Dir → Type 0
-  IsSineFrom z d = FromSomeOn (λ n. Encloses bits (from_low z) (sine_of_turn n (turn_of d x y)))
+  IsSineFrom z d = IsFrom bits z (λ n. sine_of_turn n (turn_of d x y))
 
   pub low_holds : (table : List SineLow) (d : Dir) → All (IsLowAt bits x y) table → Any (λ e. e.dir ≡ d) table → IsSineFrom (low_in table d) d
   low_holds [] d all any = let below = any.2 in absurd (omega (arith, below))
@@ -113,59 +101,6 @@ module _ (bits : ℕ) (x y : ℚ) where
 
 -- ---- sums over terms
 
-pub sum_small : (f : Dir → ℤ) → ((d : Dir) → unsigned_abs (f d) ≤ 2 ^ 62) → (ts : List Term)
-    → unsigned_abs (weigh_terms ℤ_ring ℤ_image f ts) ≤ 2 ^ 62 * terms_weight ts
-sum_small f small [] = omega arith
-sum_small f small (t ∷ ts) =
-    let product : unsigned_abs (t.c *ℤ f t.dir) ≤ unsigned_abs t.c * 2 ^ 62 = product_size t.c (f t.dir) (unsigned_abs t.c) (2 ^ 62) (omega arith)
-    (small t.dir) in
-    added (t.c *ℤ f t.dir) (weigh_terms ℤ_ring ℤ_image f ts) (unsigned_abs t.c) (terms_weight ts) (terms_weight (t ∷ ts))
-    (terms_weight-cons t ts) product (sum_small f small ts)
-  where
-    added : (a b : ℤ) (m n k : ℕ) → k ≡ m + n → unsigned_abs a ≤ m * 2 ^ 62 → unsigned_abs b ≤ 2 ^ 62 * n → unsigned_abs (a +ℤ b) ≤ 2 ^ 62 * k
-    added a b m n k e h l = omega (arith, ints, e, h, l)
-
--- what one more term makes of the sum of the first i
-pub record IsStep (f : Dir → ℤ) (ts : List Term) (i : ℕ) (total c low : ℤ) : Type 0 where
-  pub total_fits : FitsSigned w128 total
-  pub factor_fits : FitsSigned w128 c
-  pub low_fits : FitsSigned w128 low
-  pub product : FitsSigned w128 (c *ℤ low)
-  pub sum : FitsSigned w128 (total +ℤ c *ℤ low)
-  pub is : total +ℤ c *ℤ low ≡ weigh_terms ℤ_ring ℤ_image f (take (i + 1) ts)
-
-fits_128 : (z : ℤ) → unsigned_abs z ≤ 2 ^ 120 → FitsSigned w128 z
-fits_128 z h = fits_signed_from_abs w128 z (omega arith)
-
-sum_of_first : (f : Dir → ℤ) → ((d : Dir) → unsigned_abs (f d) ≤ 2 ^ 62) → (ts : List Term) (i : ℕ) → terms_weight ts ≤ 16384
-    → unsigned_abs (weigh_terms ℤ_ring ℤ_image f (take i ts)) ≤ 2 ^ 76
-sum_of_first f small ts i light =
-    let part : terms_weight (take i ts) ≤ terms_weight ts = sum_by-take-le (λ (t : Term). unsigned_abs t.c) ts i in
-    let all = sum_small f small (take i ts) in
-    omega arith
-
-step_exactly : (f : Dir → ℤ) → ((d : Dir) → unsigned_abs (f d) ≤ 2 ^ 62) → (ts : List Term) (i : ℕ) (e : Term) → i < length ts → terms_weight ts ≤ 16384
-    → IsStep f ts i (weigh_terms ℤ_ring ℤ_image f (take i ts)) (get_or ts i e).c (f (get_or ts i e).dir)
-step_exactly f small ts i e below light =
-    let t = get_or ts i e in
-    let total = weigh_terms ℤ_ring ℤ_image f (take i ts) in
-    let total_small : unsigned_abs total ≤ 2 ^ 76 = sum_of_first f small ts i light in
-    let part = sum_by_more_le (λ (t : Term). unsigned_abs t.c) ts i e below in
-    let factor_small : unsigned_abs t.c ≤ 16384 = omega (arith, part, light) in
-    let product : unsigned_abs (t.c *ℤ f t.dir) ≤ 16384 * 2 ^ 62 = product_size t.c (f t.dir) 16384 (2 ^ 62) factor_small (small t.dir) in
-    record {
-      total_fits = fits_128 total (omega arith);
-      factor_fits = fits_128 t.c (omega arith);
-      low_fits = fits_128 (f t.dir) (omega (arith, small t.dir));
-      product = fits_128 (t.c *ℤ f t.dir) (omega arith);
-      sum = fits_128 (total +ℤ t.c *ℤ f t.dir) (sum_fits total (t.c *ℤ f t.dir) total_small product);
-      is = sym (ap (weigh_terms ℤ_ring ℤ_image f) (take_more ts i e below) ∙ weigh_terms-append ℤ_ring ℤ_image f (take i ts) (t ∷ [])
-          ∙ ap (λ z. total +ℤ z) (ℤ_ring.add-zero (t.c *ℤ f t.dir)));
-    }
-  where
-    sum_fits : (a b : ℤ) → unsigned_abs a ≤ 2 ^ 76 → unsigned_abs b ≤ 16384 * 2 ^ 62 → unsigned_abs (a +ℤ b) ≤ 2 ^ 120
-    sum_fits a b h k = omega (arith, ints, h, k)
-
 -- the same for numbers that are those
 pub step_at : (table : List SineLow) → All IsSmallEntry table → (ts : List Term) (i : ℕ) (e : Term) (total from low : ℤ) → i < length ts
     → terms_weight ts ≤ 16384 → total ≡ weigh_terms ℤ_ring ℤ_image (low_in table) (take i ts) → from ≡ to_z w64 (of_z w64 (get_or ts i e).c)
@@ -174,64 +109,18 @@ step_at table entries ts i e total from low below light total_is from_is low_is 
     let t = get_or ts i e in
     let part = sum_by_more_le (λ (t : Term). unsigned_abs t.c) ts i e below in
     let factor_small : unsigned_abs t.c ≤ 16384 = omega (arith, part, light) in
+    let room : terms_weight ts ≤ 2 ^ 31 = omega (arith, light) in
     let c_is : from ≡ t.c = from_is ∙ to_z-of_z w64 t.c (fits_signed_from_abs w64 t.c (omega arith)) in
     subst₂ (λ a b. IsStep (low_in table) ts i a b low) (sym total_is) (sym c_is)
     (subst (IsStep (low_in table) ts i (weigh_terms ℤ_ring ℤ_image (low_in table) (take i ts)) t.c) (sym low_is)
-    (step_exactly (low_in table) (λ d. low_small table d entries) ts i e below light))
+    (step_exactly (low_in table) (λ d. low_small table d entries) ts i e below room))
 
 pub number_size : (table : List SineLow) → All IsSmallEntry table → (ts : List Term) (i : ℕ) (total : ℤ) → terms_weight ts ≤ 16384
     → total ≡ weigh_terms ℤ_ring ℤ_image (low_in table) (take i ts) → unsigned_abs total ≤ 2 ^ 76
 number_size table entries ts i total light is =
-    subst (λ z. unsigned_abs z ≤ 2 ^ 76) (sym is) (sum_of_first (low_in table) (λ d. low_small table d entries) ts i light)
-
--- the ends at a distance from a number
-abbrev pub around : ℤ → ℕ → Ends
-around z e = record { lo = z -ℤ pos e; hi = z +ℤ pos e }
-
--- wider ends enclose what narrower ones do
-wider : (bits : ℕ) (r s : Ends) (v : ℚ) → s.lo ≤ℤ r.lo → r.hi ≤ℤ s.hi → Encloses bits r v → Encloses bits s v
-wider bits r s v low high h =
-    let u = v *ℚ whole (2 ^ bits) in
-    record { low = le_trans (s.lo ÷ 1) (r.lo ÷ 1) u (int_le s.lo r.lo low) h.low; high = le_trans u (r.hi ÷ 1) (s.hi ÷ 1) h.high (int_le r.hi s.hi high) }
-
--- a multiple of what lies from z to z + 256
-multiple_around : (bits : ℕ) (c z : ℤ) (v : ℚ) → Encloses bits (from_low z) v → Encloses bits (around (c *ℤ z) (256 * unsigned_abs c)) ((c ÷ 1) *ℚ v)
-multiple_around bits c z v h =
-    let upper : c *ℤ (z +ℤ pos 256) ≡ c *ℤ z +ℤ pos 256 *ℤ c = ring₂ ℤ_ring (λ c z. c ⊠ (z ⊞ num 256)) (λ c z. c ⊠ z ⊞ num 256 ⊠ c) refl c z in
-    let room = between c (c *ℤ z) (c *ℤ (z +ℤ pos 256)) upper in
-    wider bits (multiple_of c (from_low z)) (around (c *ℤ z) (256 * unsigned_abs c)) ((c ÷ 1) *ℚ v) room.0 room.1 (multiple_encloses bits c (from_low z) v h)
-  where
-    between : (c p q : ℤ) → q ≡ p +ℤ pos 256 *ℤ c → ((p -ℤ pos (256 * unsigned_abs c)) ≤ℤ int_min p q) × (int_max p q ≤ℤ (p +ℤ pos (256 * unsigned_abs c)))
-    between c p q e = (omega (arith, ints, clamps, e), omega (arith, ints, clamps, e))
-
-sum_around : (bits : ℕ) (a b : ℤ) (m n k : ℕ) (u v : ℚ) → k ≡ m + n → Encloses bits (around a (256 * m)) u → Encloses bits (around b (256 * n)) v
-    → Encloses bits (around (a +ℤ b) (256 * k)) (u +ℚ v)
-sum_around bits a b m n k u v e h l =
-    let room = apart a b in
-    wider bits (sum_of (around a (256 * m)) (around b (256 * n))) (around (a +ℤ b) (256 * k)) (u +ℚ v) room.0 room.1
-    (sum_encloses bits (around a (256 * m)) (around b (256 * n)) u v h l)
-  where
-    apart : (a b : ℤ) → ((a +ℤ b -ℤ pos (256 * k)) ≤ℤ (a -ℤ pos (256 * m) +ℤ (b -ℤ pos (256 * n))))
-        × ((a +ℤ pos (256 * m) +ℤ (b +ℤ pos (256 * n))) ≤ℤ (a +ℤ b +ℤ pos (256 * k)))
-    apart a b = (omega (arith, ints, e), omega (arith, ints, e))
-
-nothing_around : (bits : ℕ) → Encloses bits (around (pos 0) (256 * 0)) (whole 0)
-nothing_around bits =
-    let e : whole 0 *ℚ whole (2 ^ bits) ≡ whole 0 = ring₁ ℚ_ring (λ u. num 0 ⊠ u) (λ u. num 0) refl (whole (2 ^ bits)) in
-    record { low = subst (λ t. whole 0 ≤ℚ t) (sym e) (le_refl (whole 0)); high = subst (λ t. t ≤ℚ whole 0) (sym e) (le_refl (whole 0)) }
-
--- the value of a sum lies around its number
-pub sum_near : (bits : ℕ) (x y : ℚ) (f : Dir → ℤ) (ts : List Term) → All (λ (t : Term). IsSineFrom bits x y (f t.dir) t.dir) ts
-    → FromSomeOn (λ n. Encloses bits (around (weigh_terms ℤ_ring ℤ_image f ts) (256 * terms_weight ts)) (value_of_terms n ts x y))
-sum_near bits x y f [] h = always (λ n. nothing_around bits)
-sum_near bits x y f (t ∷ ts) h =
-    let P : Term → Type 0 = λ t. IsSineFrom bits x y (f t.dir) t.dir in
-    onward_both
-    (λ n sine rest.
-    sum_around bits (t.c *ℤ f t.dir) (weigh_terms ℤ_ring ℤ_image f ts) (unsigned_abs t.c) (terms_weight ts) (terms_weight (t ∷ ts))
-    ((t.c ÷ 1) *ℚ sine_of_turn n (turn_of t.dir x y)) (value_of_terms n ts x y) (terms_weight-cons t ts)
-    (multiple_around bits t.c (f t.dir) (sine_of_turn n (turn_of t.dir x y)) sine) rest)
-    (All-head P t ts h) (sum_near bits x y f ts (All-tail P t ts h))
+    let room : terms_weight ts ≤ 2 ^ 31 = omega (arith, light) in
+    let first = sum_of_first (low_in table) (λ d. low_small table d entries) ts i room in
+    subst (λ z. unsigned_abs z ≤ 2 ^ 76) (sym is) (omega (arith, first, light))
 
 -- ---- forms
 
@@ -287,7 +176,7 @@ module _ (w : List ℕ) (table : List SineLow) (h : IsTableOf w table) (v : Form
 pub bounds_hold : (bits : ℕ) (x y : ℚ) (table : List SineLow) (f : FormalPoint) → All (IsLowAt bits x y) table → IsListed table f
     → FromSomeOn (λ n. Encloses bits (bounds_in table f) (value_at n f x y))
 bounds_hold bits x y table f all listed =
-    sum_near bits x y (low_in table) (terms f)
+    sum_near bits (λ n d. sine_of_turn n (turn_of d x y)) (low_in table) (terms f)
     (All-weaker (λ (t : Term). StandsIn table t.dir) (λ (t : Term). IsSineFrom bits x y (low_in table t.dir) t.dir)
     (λ t any. low_holds bits x y table t.dir all any) (terms f) listed)
 
@@ -309,12 +198,6 @@ low_computed bits x y d a q s low sines q_is encloses narrow low_is =
   where
     ≤ℤ_refl : (z : ℤ) → z ≤ℤ z
     ≤ℤ_refl z = omega (arith, ints)
-
-pub low_size : (bits : ℕ) (s : Ends) (low : ℤ) → bits ≤ 60 → IsWithin (3 * 2 ^ bits) s → low ≡ s.lo → unsigned_abs low ≤ 2 ^ 62
-low_size bits s low room h is =
-    let units : 2 ^ bits ≤ 2 ^ 60 = pow_mono room in
-    let size = h.low in
-    subst (λ z. unsigned_abs z ≤ 2 ^ 62) (sym is) (omega (arith, size, units))
 
 -- ---- the entries so far
 

@@ -2,7 +2,6 @@ pub mod Corridor
 pub mod Clear
 pub mod CornerClear
 pub mod Slacks
-pub mod Angles
 pub mod Neighbourhood
 pub mod Kept
 pub mod Decision

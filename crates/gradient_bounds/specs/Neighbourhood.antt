@@ -8,7 +8,7 @@ use Rattle.trig_meaning.specs.FromSomeOn.{FromSomeOn}
 use Rattle.trig_meaning.specs.PartialSums.{pi_sum}
 use Rattle.trig_meaning.specs.Value.{value_at}
 use Rattle.gradient_bounds.specs.declared.neighbourhood.Neighbourhood.{Neighbourhood}
-use Rattle.gradient_bounds.specs.Angles.{IsAngles, first_angle, second_angle}
+use Rattle.sine_fixed.specs.Angles.{IsAngles, first_angle, second_angle}
 use Rattle.gradient_bounds.specs.Clear.{margin}
 
 -- the radius is 0 or one part of the centre's denominator

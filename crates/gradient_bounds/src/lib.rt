@@ -5,7 +5,6 @@
 //! wherever it is with the wider one.
 #![tactic(auto)]
 
-mod angles;
 mod bounds;
 mod decision;
 mod directions;

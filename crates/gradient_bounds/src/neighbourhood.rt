@@ -5,9 +5,9 @@ ghost use Rattle.rat_core.specs.Written.{value};
 ghost use Rattle.rational_polygon.specs.Square.{centre, half_side};
 ghost use Rattle.gradient_bounds.specs.Neighbourhood.{IsNeighbourhood, ball_of};
 
-use crate::angles::{Angles, over_one_denominator};
 use rat_core::Frac;
 use rational_polygon::GridBox;
+use sine_fixed::{Angles, over_one_denominator};
 
 /// The points whose coordinates differ from those of the centre by at most `radius / centre.den`: a box, or a point
 /// where the radius is 0.

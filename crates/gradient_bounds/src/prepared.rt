@@ -19,7 +19,6 @@ ghost use Rattle.gradient_bounds.specs.Clear.{slack, IsClearAtPoint, IsClear, Is
 ghost use Rattle.gradient_bounds.specs.Table.{IsTableOf, IsLowAt, bounds_in, centre_of, box_drift, no_drift, LowerEndReaches, UpperEndFalls};
 ghost use Rattle.gradient_bounds.specs.declared.fault.PrepareFault.TheVariants.{Unstable};
 
-use crate::angles::over_one_denominator;
 use crate::bounds::around;
 use crate::decision::{each_reaches, some_falls_below};
 use crate::directions::blank_table;
@@ -36,6 +35,7 @@ use directed_fixed::{Interval, Scale};
 use edge_words::Word;
 use rat_core::Frac;
 use rational_polygon::GridBox;
+use sine_fixed::over_one_denominator;
 use std::alloc::Global;
 use std::marker::{Model, PhantomData};
 use unfolding::Unfolding;

@@ -6,15 +6,14 @@ ghost use Rattle.exp_sums.specs.Limits.{IsNear};
 ghost use Rattle.trig_meaning.specs.FromSomeOn.{FromSomeOn};
 ghost use Rattle.trig_meaning.specs.Turn.{sine_of_turn};
 ghost use Rattle.trig_meaning.specs.Value.{turn_of};
-ghost use Rattle.gradient_bounds.specs.Angles.{IsAngles, first_angle, second_angle};
+ghost use Rattle.sine_fixed.specs.Angles.{IsAngles, first_angle, second_angle};
 ghost use Rattle.gradient_bounds.specs.Table.{IsTableOf, IsLowAt};
 ghost use Rattle.gradient_bounds.specs.Kept.{IsSmallEntry};
 
-use crate::angles::{Angles, turn_numerator};
 use crate::sine_low::SineLow;
 use directed_fixed::Scale;
 use exp_sums::Dir;
-use sine_fixed::{sine, turn};
+use sine_fixed::{Angles, sine, turn, turn_numerator};
 
 /// A number for the sine of a direction at a point: at most the sine, and at most 256 units below it.
 fn low_sine<S: Scale>(dir: Dir, at: &Angles) -> i128

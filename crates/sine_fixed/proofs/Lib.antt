@@ -6,3 +6,5 @@ pub mod QuarterSquare
 pub mod Sizes
 pub mod Negative
 pub mod Sines
+pub mod Turning
+pub mod Weighing

@@ -1,2 +1,3 @@
 pub mod ReferenceAngle
 pub mod Near
+pub mod Angles

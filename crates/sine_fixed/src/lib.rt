@@ -4,8 +4,10 @@
 //! is at most 256 units wide.
 #![tactic(auto)]
 
+mod angles;
 mod reduced;
 mod series;
 
+pub use angles::{Angles, over_one_denominator, turn_numerator};
 pub use reduced::{Reduced, turn};
 pub use series::sine;

@@ -1,7 +1,7 @@
 use Rattle.std.proofs.Common.{ap, ◌∙◌, pos, arith}
 use Rattle.std.proofs.lemmas.Int.{ints}
 use Rattle.rat_core.specs.Written.{Written}
-use Rattle.gradient_bounds.proofs.Turning.{box_angles_kept}
+use Rattle.sine_fixed.proofs.Turning.{box_angles_kept}
 use Rattle.gradient_bounds.proofs.neighbourhood.square.Goals as goal
 
 pub returns-clause-neighbourhood : goal.returns-clause-neighbourhood

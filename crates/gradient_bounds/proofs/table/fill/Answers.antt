@@ -4,7 +4,7 @@ use Rattle.std.proofs.lemmas.Int.{to_z-of_z}
 use Rattle.std.proofs.lemmas.List.Elements.{All-get_or, All-from_all_within, AllWithin-upto}
 use Rattle.exp_sums.specs.Limits.{IsNear}
 use Rattle.gradient_bounds.specs.declared.sine_low.SineLow.{SineLow}
-use Rattle.gradient_bounds.specs.Angles.{first_angle, second_angle}
+use Rattle.sine_fixed.specs.Angles.{first_angle, second_angle}
 use Rattle.gradient_bounds.specs.Kept.{IsSmallEntry}
 use Rattle.gradient_bounds.proofs.Sums.{next_entry}
 use Rattle.gradient_bounds.proofs.table.fill.Goals as goal

@@ -2,7 +2,7 @@ use Rattle.std.proofs.Common.{◌≡◌, map}
 use Rattle.std.specs.List.{All, AllWithin}
 use Rattle.exp_sums.specs.Limits.{IsNear}
 use Rattle.gradient_bounds.specs.declared.sine_low.SineLow.{SineLow}
-use Rattle.gradient_bounds.specs.Angles.{first_angle, second_angle}
+use Rattle.sine_fixed.specs.Angles.{first_angle, second_angle}
 use Rattle.gradient_bounds.specs.Table.{IsLowAt}
 use Rattle.gradient_bounds.specs.Kept.{IsSmallEntry}
 use Rattle.gradient_bounds.proofs.table.fill.Given as goal

@@ -2,7 +2,7 @@ use Rattle.std.proofs.Common.{subst₂, ◌^◌, ◌≤◌, ◌*ℤ◌, unsigned
 use Rattle.std.specs.Int.{w64, w128}
 use Rattle.std.proofs.lemmas.Int.{to_z-of_z}
 use Rattle.directed_fixed.specs.Rounding.{IsCeiling}
-use Rattle.gradient_bounds.proofs.Turning.{angles_fit}
+use Rattle.sine_fixed.proofs.Turning.{angles_fit}
 use Rattle.gradient_bounds.proofs.Computed.{dividend_at, drift_is}
 use Rattle.gradient_bounds.proofs.thresholds.drift.Goals as goal
 

@@ -1,6 +1,6 @@
-use Rattle.gradient_bounds.proofs.Turning.{IsCommon, kept_common, common_computed}
+use Rattle.sine_fixed.proofs.Turning.{IsCommon, kept_common, common_computed}
 use Rattle.rat_core.specs.Written.{value}
-use Rattle.gradient_bounds.proofs.angles.over_one_denominator.Goals as goal
+use Rattle.sine_fixed.proofs.angles.over_one_denominator.Goals as goal
 
 computed : (c : goal.After-num-2) → IsCommon (value c.args.x) (value c.args.y) (kept_common c.num.result c.num-2.result c.den-x_den.result c.den-y_den.result)
 computed c =

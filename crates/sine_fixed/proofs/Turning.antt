@@ -18,8 +18,8 @@ use Rattle.directed_fixed.proofs.Rounding.{product_size}
 use Rattle.exp_sums.specs.declared.direction.Dir.{Dir}
 use Rattle.exp_sums.specs.Limits.{IsNear}
 use Rattle.trig_meaning.specs.Value.{turn_of}
-use Rattle.gradient_bounds.specs.declared.angles.Angles.{Angles}
-use Rattle.gradient_bounds.specs.Angles.{IsAngles, first_angle, second_angle}
+use Rattle.sine_fixed.specs.declared.angles.Angles.{Angles}
+use Rattle.sine_fixed.specs.Angles.{IsAngles, IsTurnInRange, first_angle, second_angle}
 
 -- X/d and Y/e over the product of the denominators
 abbrev common : ℤ → ℤ → ℤ → ℤ → Angles
@@ -125,11 +125,17 @@ numerator_turns m n X Y (negsuc d) h = absurd h.le
 
 -- sizes
 record IsSmallTurn (m n X Y : ℤ) : Type 0 where
-  pub first : unsigned_abs (m *ℤ X) ≤ 2 ^ 51
-  pub second : unsigned_abs (n *ℤ Y) ≤ 2 ^ 51
+  pub first : unsigned_abs (m *ℤ X) ≤ 2 ^ 52
+  pub second : unsigned_abs (n *ℤ Y) ≤ 2 ^ 52
   pub all : unsigned_abs (m *ℤ X +ℤ n *ℤ Y) ≤ 2 ^ 52
 
-angle_size : (a : Angles) → IsAngles a → (unsigned_abs a.first ≤ 2 ^ 42) × (unsigned_abs a.second ≤ 2 ^ 42) × (unsigned_abs a.den ≤ 2 ^ 42)
+-- angles are at most the denominator, which is at most 2^42
+record IsSmallAngles (a : Angles) : Type 0 where
+  pub first : unsigned_abs a.first ≤ unsigned_abs a.den
+  pub second : unsigned_abs a.second ≤ unsigned_abs a.den
+  pub den : unsigned_abs a.den ≤ 2 ^ 42
+
+angle_size : (a : Angles) → IsAngles a → IsSmallAngles a
 angle_size a h =
     let positive = h.positive in
     let small = h.small in
@@ -137,28 +143,37 @@ angle_size a h =
     let second = h.second in
     let first_within = h.first_within in
     let second_within = h.second_within in
-    (omega (arith, ints), omega (arith, ints), omega (arith, ints))
+    record { first = omega (arith, ints); second = omega (arith, ints); den = omega (arith, ints) }
 
-sum_size : (p q : ℤ) → unsigned_abs p ≤ 2 ^ 51 → unsigned_abs q ≤ 2 ^ 51 → unsigned_abs (p +ℤ q) ≤ 2 ^ 52
-sum_size p q h k = omega (arith, ints)
+sum_size : (p q : ℤ) (m n d : ℕ) → unsigned_abs p ≤ m * d → unsigned_abs q ≤ n * d → (m + n) * d ≤ 2 ^ 52 → unsigned_abs (p +ℤ q) ≤ 2 ^ 52
+sum_size p q m n d h k room = omega (arith, ints, h, k, room)
 
-small_turn : (m n : ℤ) (a : Angles) → unsigned_abs m ≤ 130 → unsigned_abs n ≤ 130 → IsAngles a → IsSmallTurn m n a.first a.second
-small_turn m n a h k angles =
+part_size : (p : ℤ) (m n d : ℕ) → unsigned_abs p ≤ m * d → (m + n) * d ≤ 2 ^ 52 → unsigned_abs p ≤ 2 ^ 52
+part_size p m n d h room = omega (arith, h, room)
+
+other_size : (q : ℤ) (m n d : ℕ) → unsigned_abs q ≤ n * d → (m + n) * d ≤ 2 ^ 52 → unsigned_abs q ≤ 2 ^ 52
+other_size q m n d h room = omega (arith, h, room)
+
+small_turn : (m n : ℤ) (a : Angles) → (unsigned_abs m + unsigned_abs n) * unsigned_abs a.den ≤ 2 ^ 52 → IsAngles a → IsSmallTurn m n a.first a.second
+small_turn m n a room angles =
     let sizes = angle_size a angles in
-    let first : unsigned_abs (m *ℤ a.first) ≤ 130 * 2 ^ 42 = product_size m a.first 130 (2 ^ 42) h sizes.0 in
-    let second : unsigned_abs (n *ℤ a.second) ≤ 130 * 2 ^ 42 = product_size n a.second 130 (2 ^ 42) k sizes.1 in
-    let first_small : unsigned_abs (m *ℤ a.first) ≤ 2 ^ 51 = omega arith in
-    let second_small : unsigned_abs (n *ℤ a.second) ≤ 2 ^ 51 = omega arith in
-    record { first = first_small; second = second_small; all = sum_size (m *ℤ a.first) (n *ℤ a.second) first_small second_small }
+    let d = unsigned_abs a.den in
+    let first : unsigned_abs (m *ℤ a.first) ≤ unsigned_abs m * d = product_size m a.first (unsigned_abs m) d (omega arith) sizes.first in
+    let second : unsigned_abs (n *ℤ a.second) ≤ unsigned_abs n * d = product_size n a.second (unsigned_abs n) d (omega arith) sizes.second in
+    record {
+      first = part_size (m *ℤ a.first) (unsigned_abs m) (unsigned_abs n) d first room;
+      second = other_size (n *ℤ a.second) (unsigned_abs m) (unsigned_abs n) d second room;
+      all = sum_size (m *ℤ a.first) (n *ℤ a.second) (unsigned_abs m) (unsigned_abs n) d first second room;
+    }
 
 pub fits_128 : (z : ℤ) → unsigned_abs z ≤ 2 ^ 120 → FitsSigned w128 z
 fits_128 z h = fits_signed_from_abs w128 z (omega arith)
 
-fits_32 : (z : ℤ) → unsigned_abs z ≤ 130 → FitsSigned w32 z
+fits_32 : (z : ℤ) → unsigned_abs z ≤ 4096 → FitsSigned w32 z
 fits_32 z h = fits_signed_from_abs w32 z (omega arith)
 
 pub angles_fit : (a : Angles) → IsAngles a → FitsSigned w128 a.den
-angles_fit a h = fits_128 a.den (omega (arith, (angle_size a h).2))
+angles_fit a h = fits_128 a.den (omega (arith, (angle_size a h).den))
 
 -- the numerator as the machine computes it
 abbrev pub kept_numerator : ℤ → ℤ → Angles → ℤ
@@ -170,15 +185,15 @@ pub record IsNumerator (dir : Dir) (a : Angles) (z : ℤ) : Type 0 where
   pub size : unsigned_abs (kept z) ≤ 2 ^ 52
   pub turn : kept z ÷ unsigned_abs a.den ≡ turn_of dir (first_angle a) (second_angle a)
 
-numerator_exactly : (dir : Dir) (a : Angles) → IsNear 130 dir → IsAngles a → IsNumerator dir a (kept_numerator dir.m dir.n a)
-numerator_exactly dir a near angles =
-    let small = small_turn dir.m dir.n a near.m near.n angles in
+numerator_exactly : (dir : Dir) (a : Angles) → IsNear 4096 dir → IsTurnInRange dir a → IsAngles a → IsNumerator dir a (kept_numerator dir.m dir.n a)
+numerator_exactly dir a near room angles =
+    let small = small_turn dir.m dir.n a room angles in
     let sizes = angle_size a angles in
     let m_fits : FitsSigned w128 dir.m = fits_128 dir.m (omega (arith, near.m)) in
     let n_fits : FitsSigned w128 dir.n = fits_128 dir.n (omega (arith, near.n)) in
-    let first_fits : FitsSigned w128 a.first = fits_128 a.first (omega (arith, sizes.0)) in
-    let second_fits : FitsSigned w128 a.second = fits_128 a.second (omega (arith, sizes.1)) in
-    let den_fits : FitsSigned w128 a.den = fits_128 a.den (omega (arith, sizes.2)) in
+    let first_fits : FitsSigned w128 a.first = fits_128 a.first (omega (arith, sizes.first, sizes.den)) in
+    let second_fits : FitsSigned w128 a.second = fits_128 a.second (omega (arith, sizes.second, sizes.den)) in
+    let den_fits : FitsSigned w128 a.den = fits_128 a.den (omega (arith, sizes.den)) in
     let first_product : FitsSigned w128 (dir.m *ℤ a.first) = fits_128 (dir.m *ℤ a.first) (omega (arith, small.first)) in
     let second_product : FitsSigned w128 (dir.n *ℤ a.second) = fits_128 (dir.n *ℤ a.second) (omega (arith, small.second)) in
     let sum : FitsSigned w128 (dir.m *ℤ a.first +ℤ dir.n *ℤ a.second) = fits_128 (dir.m *ℤ a.first +ℤ dir.n *ℤ a.second) (omega (arith, small.all)) in
@@ -188,12 +203,19 @@ numerator_exactly dir a near angles =
       turn = simp to_z-of_z (numerator_turns dir.m dir.n a.first a.second a.den angles.positive);
     }
 
-pub numerator_computed : (dir : Dir) (a : Angles) (p q : ℤ) → IsNear 130 dir → IsAngles a → p ≡ to_z w32 (of_z w32 dir.m)
+pub numerator_computed : (dir : Dir) (a : Angles) (p q : ℤ) → IsNear 4096 dir → IsTurnInRange dir a → IsAngles a → p ≡ to_z w32 (of_z w32 dir.m)
     → q ≡ to_z w32 (of_z w32 dir.n) → IsNumerator dir a (kept_numerator p q a)
-numerator_computed dir a p q near angles p_is q_is =
+numerator_computed dir a p q near room angles p_is q_is =
     let m : p ≡ dir.m = p_is ∙ to_z-of_z w32 dir.m (fits_32 dir.m near.m) in
     let n : q ≡ dir.n = q_is ∙ to_z-of_z w32 dir.n (fits_32 dir.n near.n) in
-    subst₂ (λ s t. IsNumerator dir a (kept_numerator s t a)) (sym m) (sym n) (numerator_exactly dir a near angles)
+    subst₂ (λ s t. IsNumerator dir a (kept_numerator s t a)) (sym m) (sym n) (numerator_exactly dir a near room angles)
+
+-- the directions of a word's heights turn in range
+pub near_in_range : (dir : Dir) (a : Angles) → IsNear 130 dir → IsAngles a → IsTurnInRange dir a
+near_in_range dir a near angles =
+    let sum : unsigned_abs dir.m + unsigned_abs dir.n ≤ 260 = omega (arith, near.m, near.n) in
+    let product : (unsigned_abs dir.m + unsigned_abs dir.n) * unsigned_abs a.den ≤ 260 * 2 ^ 42 = mul-le-mul sum (angle_size a angles).den in
+    omega (arith, product)
 
 -- the turn at the machine's numbers
 pub turn_computed : (dir : Dir) (a : Angles) (z : ℤ) → IsAngles a → unsigned_abs z ≤ 2 ^ 52
@@ -229,7 +251,7 @@ pub box_angles_kept : (i j level : ℕ) (x y d : ℤ) → level ≤ 20 → i < 2
 box_angles_kept i j level x y d deep column row x_is y_is d_is =
     let angles = box_angles i j level deep column row in
     let sizes = angle_size (record { first = pos (2 * i + 1); second = pos (2 * j + 1); den = pos (2 ^ (level + 1)) }) angles in
-    let x_fits : FitsSigned w128 x = subst (FitsSigned w128) (sym x_is) (fits_128 (pos (2 * i + 1)) (omega (arith, sizes.0))) in
-    let y_fits : FitsSigned w128 y = subst (FitsSigned w128) (sym y_is) (fits_128 (pos (2 * j + 1)) (omega (arith, sizes.1))) in
-    let d_fits : FitsSigned w128 d = subst (FitsSigned w128) (sym d_is) (fits_128 (pos (2 ^ (level + 1))) (omega (arith, sizes.2))) in
+    let x_fits : FitsSigned w128 x = subst (FitsSigned w128) (sym x_is) (fits_128 (pos (2 * i + 1)) (omega (arith, sizes.first, sizes.den))) in
+    let y_fits : FitsSigned w128 y = subst (FitsSigned w128) (sym y_is) (fits_128 (pos (2 * j + 1)) (omega (arith, sizes.second, sizes.den))) in
+    let d_fits : FitsSigned w128 d = subst (FitsSigned w128) (sym d_is) (fits_128 (pos (2 ^ (level + 1))) (omega (arith, sizes.den))) in
     simp to_z-of_z (subst IsAngles (sym (λ k. record { first = x_is k; second = y_is k; den = d_is k })) angles)

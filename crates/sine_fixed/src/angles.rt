@@ -1,10 +1,10 @@
 //! The angles of a triangle over one denominator.
-ghost use Rattle.std.specs.Prelude.{◌≡◌, ◌^◌, ◌≤◌, unsigned_abs};
+ghost use Rattle.std.specs.Prelude.{◌≡◌, ◌*◌, ◌^◌, ◌≤◌, pos, unsigned_abs};
 ghost use Rattle.rat_core.specs.Fraction.{whole, ◌÷◌, ◌≤ℚ◌};
 ghost use Rattle.rat_core.specs.Written.{value};
 ghost use Rattle.exp_sums.specs.Limits.{IsNear};
 ghost use Rattle.trig_meaning.specs.Value.{turn_of};
-ghost use Rattle.gradient_bounds.specs.Angles.{IsAngles, first_angle, second_angle};
+ghost use Rattle.sine_fixed.specs.Angles.{IsAngles, IsTurnInRange, first_angle, second_angle};
 
 use exp_sums::Dir;
 use rat_core::Frac;
@@ -28,6 +28,7 @@ pub fn over_one_denominator(x: Frac, y: Frac) -> Angles
     ensures angles { IsAngles result }
     ensures first { first_angle result ≡ value x }
     ensures second { second_angle result ≡ value y }
+    ensures denominator { result.den ≡ pos (x.den * y.den) }
 {
     let x_den = x.den();
     let y_den = y.den();
@@ -40,7 +41,8 @@ pub fn over_one_denominator(x: Frac, y: Frac) -> Angles
 
 /// The numerator of `mx + ny` over the same denominator, for the direction (m, n).
 pub fn turn_numerator(dir: Dir, at: &Angles) -> i128
-    requires near { IsNear 130 dir }
+    requires near { IsNear 4096 dir }
+    requires in_range { IsTurnInRange dir at.now }
     requires angles { IsAngles at.now }
     ensures turn { result ÷ unsigned_abs at.now.den ≡ turn_of dir (first_angle at.now) (second_angle at.now) }
     ensures size { unsigned_abs result ≤ 2 ^ 52 }
