@@ -1,7 +1,7 @@
 -- A run over a sink that gathers, once what it gathered was passed on.
-use Rattle.std.proofs.Common.{◌≡◌, ◌≢◌, ℕ, List, Option, Some, None, IfSome, Result, Ok, Err, IsOk, sym, subst, arith}
+use Rattle.std.proofs.Common.{◌≡◌, ◌⊎◌, inl, inr, refl, ℕ, List, Option, Some, None, IfSome, Result, Ok, Err, IsOk, subst, arith}
 use Rattle.std.specs.Io.KnownBytes.{Appends}
-use Rattle.mcb_ends.specs.Bytes.{AppendsPrefix, Writes}
+use Rattle.mcb_ends.specs.Bytes.{Writes}
 use Rattle.mcb_ends.specs.Causes.{HasCause, Rose}
 use Rattle.mcb_ends.proofs.Gathering.{AppendsPrefix-written}
 use Rattle.billiards_cli.specs.Command.{Command}
@@ -76,16 +76,19 @@ passed_on command before mid written faults WriteFault (Err error) serves on unw
 passed_on command before mid written faults ReadFault (Ok value) serves on unwritten =
     let stands = unwritten (inl refl) in
     record { leaves = record { stops = serves.leaves.stops; unwritten = stands.0 }; counts = (serves.counts.0, stands.1) }
-passed_on command before mid written faults ReadFault (Err error) serves on unwritten = absurd (unwritten (inl refl)).2
+passed_on {T = T} {E = E} command before mid written faults ReadFault (Err error) serves on unwritten =
+    let failed : IsOk {T = T} {E = E} (Err error) = (unwritten (inl refl)).2 in absurd cc
 passed_on command before mid written faults OutOfMemory (Ok value) serves on unwritten =
     let stands = unwritten (inr refl) in
     record { leaves = record { answer = serves.leaves.answer; unwritten = stands.0 }; counts = (serves.counts.0, stands.1) }
-passed_on command before mid written faults OutOfMemory (Err error) serves on unwritten = absurd (unwritten (inr refl)).2
+passed_on {T = T} {E = E} command before mid written faults OutOfMemory (Err error) serves on unwritten =
+    let failed : IsOk {T = T} {E = E} (Err error) = (unwritten (inr refl)).2 in absurd cc
 passed_on command before mid written faults Usage result serves on unwritten = absurd serves.leaves
 
 -- whatever is asked for
 pub passed_on_asked : {T E : Type 0} (asked : Option Request) (before mid : Streams) (written : Option (List ℕ)) (faults : ℕ) (status : Status)
-    (result : Result T E) → IfSome asked (λ request. Serves (command_of request) before mid status) → PassesOn before mid (passed mid written faults) result
+    (result : Result T E) → IfSome asked (λ request. Serves (command_of request) before mid status)
+    → PassesOn before mid (passed mid written faults) result
     → ((status ≡ ReadFault) ⊎ (status ≡ OutOfMemory) → StandsUnwritten before (passed mid written faults) result)
     → IfSome asked (λ request. Serves (command_of request) before (passed mid written faults) (status_after status result))
 passed_on_asked None before mid written faults status result serves on unwritten = tt
@@ -97,9 +100,3 @@ pub decided_asked : (asked : Option Request) (before after : Streams) (status : 
     → IfSome asked (λ request. IsDecided (command_of request) before.left status)
 decided_asked None before after status serves stood = tt
 decided_asked (Some request) before after status serves stood = decided (command_of request) before after status serves stood
-
--- a status that is left was that of the run
-pub ends_as : {T E : Type 0} (status ending : Status) (result : Result T E) → ending ≢ WriteFault → status_after status result ≡ ending
-    → (status ≡ ending) × IsOk result
-ends_as status ending (Ok value) other ends = (ends, tt)
-ends_as status ending (Err error) other ends = absurd (other (sym ends))
