@@ -39,7 +39,7 @@ pub use std_sink::StdSink;
 pub use std_source::StdSource;
 pub use sure_sink::SureSink;
 pub use sure_source::SureSource;
-pub use writing::{put, put_all, put_decimal};
+pub use writing::{put, put_all, put_decimal, put_wide};
 
 #[cfg(test)]
 mod tests;

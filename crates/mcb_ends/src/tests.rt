@@ -142,6 +142,16 @@ fn decimals_are_canonical(rt: HostRuntime) -> Result<(), Fail> {
 }
 
 #[test]
+fn wide_decimals_are_canonical(rt: HostRuntime) -> Result<(), Fail> {
+    let alloc = rt.alloc();
+    let mut out = MemSink::new(alloc, 80, 7, Vec::new(alloc))?;
+    assert_eq!(rt; put_wide(&mut out, -(1 << 100)), Ok(()));
+    assert_eq!(rt; put_wide(&mut out, 0), Ok(()));
+    assert!(rt; out.bytes() == b"-12676506002282294014967032053760".as_slice());
+    Ok(())
+}
+
+#[test]
 fn sure_ends_never_fail(rt: HostRuntime) -> Result<(), Fail> {
     let alloc = rt.alloc();
     let mut src = SureSource::new(b"abc".to_vec(alloc)?);

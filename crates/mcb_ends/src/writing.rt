@@ -4,6 +4,7 @@ ghost use Rattle.mcb_ends.specs.Bytes.{Writes, joined};
 ghost use Rattle.mcb_ends.specs.Causes.{HasCause};
 
 use crate::{Decimal, Failed, Sink};
+use itoa::Buffer;
 
 /// Writes the whole piece, or a prefix of it and fails. It takes no memory.
 pub fn put<K: Sink>(out: &mut K, piece: &[u8]) -> Result<(), Failed>
@@ -37,4 +38,14 @@ pub fn put_decimal<K: Sink>(out: &mut K, n: i64) -> Result<(), Failed>
     ensures cause { HasCause (K.faults out.old) (K.faults out.new) result }
 {
     put(out, Decimal::signed(n).digits())
+}
+
+/// The same for a number of 128 bits.
+pub fn put_wide<K: Sink>(out: &mut K, n: i128) -> Result<(), Failed>
+    ensures text { Writes (K.written out.old) (K.written out.new) result (signed_decimal n) }
+    ensures room { K.room out.new ≡ K.room out.old }
+    ensures cause { HasCause (K.faults out.old) (K.faults out.new) result }
+{
+    let mut buffer = Buffer::new();
+    put(out, buffer.format(n).as_bytes())
 }
