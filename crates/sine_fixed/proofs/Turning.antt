@@ -6,8 +6,8 @@ use Rattle.std.proofs.Math.Pow.{pow_mono}
 use Rattle.std.proofs.lemmas.Nat.{pow_pos}
 use Rattle.std.proofs.lemmas.Grind.{pow_more}
 use Rattle.std.proofs.lemmas.Int.{ints, to_z-of_z, fits_signed_from_abs}
-use Rattle.ring_solver.specs.Expression.{◌⊞◌, ◌⊠◌}
-use Rattle.ring_solver.proofs.Solver.{ring₅}
+use Rattle.ring_solver.specs.Expression.{num, ◌⊞◌, ◌⊠◌}
+use Rattle.ring_solver.proofs.Solver.{ring₂, ring₃, ring₅}
 use Rattle.ring_solver.proofs.Whole.{pos_le, *ℤ_mono}
 use Rattle.rat_core.specs.Fraction.{ℚ, ◌÷◌, whole, ◌+ℚ◌, ◌*ℚ◌, ◌≤ℚ◌}
 use Rattle.rat_core.specs.Written.{Written, value}
@@ -18,6 +18,7 @@ use Rattle.directed_fixed.proofs.Rounding.{product_size}
 use Rattle.exp_sums.specs.declared.direction.Dir.{Dir}
 use Rattle.exp_sums.specs.Limits.{IsNear}
 use Rattle.trig_meaning.specs.Value.{turn_of}
+use Rattle.trig_meaning.proofs.Quarters.{half_twice}
 use Rattle.sine_fixed.specs.declared.angles.Angles.{Angles}
 use Rattle.sine_fixed.specs.Angles.{IsAngles, IsTurnInRange, first_angle, second_angle}
 
@@ -124,10 +125,10 @@ numerator_turns m n X Y (pos d) h = numerator_over m n X Y d (omega (arith, ints
 numerator_turns m n X Y (negsuc d) h = absurd h.le
 
 -- sizes
-record IsSmallTurn (m n X Y : ℤ) : Type 0 where
+record IsSmallTurn (m n X Y : ℤ) (d : ℕ) : Type 0 where
   pub first : unsigned_abs (m *ℤ X) ≤ 2 ^ 52
   pub second : unsigned_abs (n *ℤ Y) ≤ 2 ^ 52
-  pub all : unsigned_abs (m *ℤ X +ℤ n *ℤ Y) ≤ 2 ^ 52
+  pub all : unsigned_abs (m *ℤ X +ℤ n *ℤ Y) ≤ (unsigned_abs m + unsigned_abs n) * d
 
 -- angles are at most the denominator, which is at most 2^42
 record IsSmallAngles (a : Angles) : Type 0 where
@@ -145,8 +146,8 @@ angle_size a h =
     let second_within = h.second_within in
     record { first = omega (arith, ints); second = omega (arith, ints); den = omega (arith, ints) }
 
-sum_size : (p q : ℤ) (m n d : ℕ) → unsigned_abs p ≤ m * d → unsigned_abs q ≤ n * d → (m + n) * d ≤ 2 ^ 52 → unsigned_abs (p +ℤ q) ≤ 2 ^ 52
-sum_size p q m n d h k room = omega (arith, ints, h, k, room)
+sum_size : (p q : ℤ) (m n d : ℕ) → unsigned_abs p ≤ m * d → unsigned_abs q ≤ n * d → unsigned_abs (p +ℤ q) ≤ (m + n) * d
+sum_size p q m n d h k = omega (arith, ints, h, k)
 
 part_size : (p : ℤ) (m n d : ℕ) → unsigned_abs p ≤ m * d → (m + n) * d ≤ 2 ^ 52 → unsigned_abs p ≤ 2 ^ 52
 part_size p m n d h room = omega (arith, h, room)
@@ -154,7 +155,8 @@ part_size p m n d h room = omega (arith, h, room)
 other_size : (q : ℤ) (m n d : ℕ) → unsigned_abs q ≤ n * d → (m + n) * d ≤ 2 ^ 52 → unsigned_abs q ≤ 2 ^ 52
 other_size q m n d h room = omega (arith, h, room)
 
-small_turn : (m n : ℤ) (a : Angles) → (unsigned_abs m + unsigned_abs n) * unsigned_abs a.den ≤ 2 ^ 52 → IsAngles a → IsSmallTurn m n a.first a.second
+small_turn : (m n : ℤ) (a : Angles) → (unsigned_abs m + unsigned_abs n) * unsigned_abs a.den ≤ 2 ^ 52 → IsAngles a
+    → IsSmallTurn m n a.first a.second (unsigned_abs a.den)
 small_turn m n a room angles =
     let sizes = angle_size a angles in
     let d = unsigned_abs a.den in
@@ -163,7 +165,7 @@ small_turn m n a room angles =
     record {
       first = part_size (m *ℤ a.first) (unsigned_abs m) (unsigned_abs n) d first room;
       second = other_size (n *ℤ a.second) (unsigned_abs m) (unsigned_abs n) d second room;
-      all = sum_size (m *ℤ a.first) (n *ℤ a.second) (unsigned_abs m) (unsigned_abs n) d first second room;
+      all = sum_size (m *ℤ a.first) (n *ℤ a.second) (unsigned_abs m) (unsigned_abs n) d first second;
     }
 
 pub fits_128 : (z : ℤ) → unsigned_abs z ≤ 2 ^ 120 → FitsSigned w128 z
@@ -182,6 +184,7 @@ kept_numerator p q a = kept (kept p *ℤ kept a.first) +ℤ kept (kept q *ℤ ke
 -- what is said of it
 pub record IsNumerator (dir : Dir) (a : Angles) (z : ℤ) : Type 0 where
   pub fits : FitsSigned w128 z
+  pub bound : unsigned_abs (kept z) ≤ (unsigned_abs dir.m + unsigned_abs dir.n) * unsigned_abs a.den
   pub size : unsigned_abs (kept z) ≤ 2 ^ 52
   pub turn : kept z ÷ unsigned_abs a.den ≡ turn_of dir (first_angle a) (second_angle a)
 
@@ -196,10 +199,12 @@ numerator_exactly dir a near room angles =
     let den_fits : FitsSigned w128 a.den = fits_128 a.den (omega (arith, sizes.den)) in
     let first_product : FitsSigned w128 (dir.m *ℤ a.first) = fits_128 (dir.m *ℤ a.first) (omega (arith, small.first)) in
     let second_product : FitsSigned w128 (dir.n *ℤ a.second) = fits_128 (dir.n *ℤ a.second) (omega (arith, small.second)) in
-    let sum : FitsSigned w128 (dir.m *ℤ a.first +ℤ dir.n *ℤ a.second) = fits_128 (dir.m *ℤ a.first +ℤ dir.n *ℤ a.second) (omega (arith, small.all)) in
+    let sum : FitsSigned w128 (dir.m *ℤ a.first +ℤ dir.n *ℤ a.second) = fits_128 (dir.m *ℤ a.first +ℤ dir.n *ℤ a.second) (omega (arith, small.all, room)) in
+    let size : unsigned_abs (dir.m *ℤ a.first +ℤ dir.n *ℤ a.second) ≤ 2 ^ 52 = omega (arith, small.all, room) in
     record {
       fits = simp to_z-of_z sum;
-      size = simp to_z-of_z small.all;
+      bound = simp to_z-of_z small.all;
+      size = simp to_z-of_z size;
       turn = simp to_z-of_z (numerator_turns dir.m dir.n a.first a.second a.den angles.positive);
     }
 
@@ -255,3 +260,24 @@ box_angles_kept i j level x y d deep column row x_is y_is d_is =
     let y_fits : FitsSigned w128 y = subst (FitsSigned w128) (sym y_is) (fits_128 (pos (2 * j + 1)) (omega (arith, sizes.second, sizes.den))) in
     let d_fits : FitsSigned w128 d = subst (FitsSigned w128) (sym d_is) (fits_128 (pos (2 ^ (level + 1))) (omega (arith, sizes.den))) in
     simp to_z-of_z (subst IsAngles (sym (λ k. record { first = x_is k; second = y_is k; den = d_is k })) angles)
+
+-- ---- a quarter turn more
+
+-- N/d and a half, over twice the denominator
+half_over : (N : ℤ) (d : ℕ) → 0 < d → (pos 2 *ℤ N +ℤ pos d) ÷ (2 * d) ≡ N ÷ d +ℚ pos 1 ÷ 2
+half_over N d p =
+    let double : 0 < 2 * d = omega (arith, p) in
+    let left : (pos 2 *ℤ N +ℤ pos d) ÷ (2 * d) *ℚ whole (2 * d) ≡ whole 2 *ℚ (N ÷ 1) +ℚ whole d =
+    over-mul (pos 2 *ℤ N +ℤ pos d) (2 * d) double ∙ int-add (pos 2 *ℤ N) (pos d) ∙ ap (λ t. t +ℚ whole d) (int-mul (pos 2) N)
+    in
+    let right : (N ÷ d +ℚ pos 1 ÷ 2) *ℚ whole (2 * d) ≡ whole 2 *ℚ (N ÷ 1) +ℚ whole d =
+    ap (λ t. (N ÷ d +ℚ pos 1 ÷ 2) *ℚ t) (int-mul (pos 2) (pos d))
+    ∙ ring₃ ℚ_ring (λ q h d. (q ⊞ h) ⊠ (num 2 ⊠ d)) (λ q h d. num 2 ⊠ (q ⊠ d) ⊞ (h ⊠ num 2) ⊠ d) refl (N ÷ d) (pos 1 ÷ 2) (whole d)
+    ∙ ap₂ (λ s t. whole 2 *ℚ s +ℚ t *ℚ whole d) (over-mul N d p) half_twice
+    ∙ ring₂ ℚ_ring (λ n d. num 2 ⊠ n ⊞ num 1 ⊠ d) (λ n d. num 2 ⊠ n ⊞ d) refl (N ÷ 1) (whole d)
+    in
+    cancel (2 * d) double ((pos 2 *ℤ N +ℤ pos d) ÷ (2 * d)) (N ÷ d +ℚ pos 1 ÷ 2) (left ∙ sym right)
+
+pub half_further : (N D : ℤ) → pos 1 ≤ℤ D → (pos 2 *ℤ N +ℤ D) ÷ unsigned_abs (pos 2 *ℤ D) ≡ N ÷ unsigned_abs D +ℚ pos 1 ÷ 2
+half_further N (pos d) h = half_over N d (omega (arith, ints))
+half_further N (negsuc d) h = absurd h.le

@@ -24,3 +24,7 @@ second_angle a = a.second ÷ unsigned_abs a.den
 -- the numerators of mx + ny over the denominator are small
 abbrev pub IsTurnInRange : Dir → Angles → Type 0
 IsTurnInRange dir a = (unsigned_abs dir.m + unsigned_abs dir.n) * unsigned_abs a.den ≤ 2 ^ 52
+
+-- those of twice as much and a quarter turn
+abbrev pub IsHalfTurnInRange : Dir → Angles → Type 0
+IsHalfTurnInRange dir a = (2 * (unsigned_abs dir.m + unsigned_abs dir.n) + 1) * unsigned_abs a.den ≤ 2 ^ 52

@@ -1,5 +1,5 @@
 //! The angles of a triangle over one denominator.
-ghost use Rattle.std.specs.Prelude.{◌≡◌, ◌*◌, ◌^◌, ◌≤◌, pos, unsigned_abs};
+ghost use Rattle.std.specs.Prelude.{◌≡◌, ◌+◌, ◌*◌, ◌^◌, ◌≤◌, pos, unsigned_abs};
 ghost use Rattle.rat_core.specs.Fraction.{whole, ◌÷◌, ◌≤ℚ◌};
 ghost use Rattle.rat_core.specs.Written.{value};
 ghost use Rattle.exp_sums.specs.Limits.{IsNear};
@@ -45,6 +45,7 @@ pub fn turn_numerator(dir: Dir, at: &Angles) -> i128
     requires in_range { IsTurnInRange dir at.now }
     requires angles { IsAngles at.now }
     ensures turn { result ÷ unsigned_abs at.now.den ≡ turn_of dir (first_angle at.now) (second_angle at.now) }
+    ensures bound { unsigned_abs result ≤ (unsigned_abs dir.m + unsigned_abs dir.n) * unsigned_abs at.now.den }
     ensures size { unsigned_abs result ≤ 2 ^ 52 }
 {
     i128::from(dir.m) * at.first + i128::from(dir.n) * at.second

@@ -5,9 +5,11 @@
 #![tactic(auto)]
 
 mod angles;
+mod directions;
 mod reduced;
 mod series;
 
 pub use angles::{Angles, over_one_denominator, turn_numerator};
+pub use directions::{direction_cosine, direction_sine};
 pub use reduced::{Reduced, turn};
 pub use series::sine;

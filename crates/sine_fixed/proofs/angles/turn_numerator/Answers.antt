@@ -12,3 +12,7 @@ returns-clause-turn c =
 pub returns-clause-size : goal.returns-clause-size
 returns-clause-size c =
     (numerator_computed c.args.dir c.args.at.now c.from.result c.from-2.result c.requires.near c.requires.in_range c.requires.angles c.from.ensures c.from-2.ensures).size
+
+pub returns-clause-bound : goal.returns-clause-bound
+returns-clause-bound c =
+    (numerator_computed c.args.dir c.args.at.now c.from.result c.from-2.result c.requires.near c.requires.in_range c.requires.angles c.from.ensures c.from-2.ensures).bound
