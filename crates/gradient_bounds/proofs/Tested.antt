@@ -198,12 +198,3 @@ module _ (bits low high : ℕ) (L H : ℤ) (scale : IsScale bits low high L H) (
   pub shut_some : SomeFunction w (IsShutIn (ball_of r) (slack high)) → SomeFallsBelow (needed bits low H r) w us ls
   shut_some = some_back (IsShutIn (ball_of r) (slack high)) (λ v shift k l p q.
       shut_falls bits low high L H scale r near (F v k l) (slow v shift k l p q) (number_in table (F v k l)) (value_near v shift k l p q))
-
--- both angles of a triangle are from 0 to 1
-pub unit_triangle : (x y : ℚ) → whole 0 <ℚ x → whole 0 <ℚ y → x +ℚ y <ℚ whole 1 → (whole 0 ≤ℚ x) × (x ≤ℚ whole 1) × (whole 0 ≤ℚ y) × (y ≤ℚ whole 1)
-unit_triangle x y a b c = (
-  lt_le (whole 0) x a,
-  le₂ ℚ_ordered (λ x y. x) (λ x y. num 1) (λ x y. le (num 0) y ∷ le (x ⊞ y) (num 1) ∷ []) refl x y (lt_le (whole 0) y b, (lt_le (x +ℚ y) (whole 1) c, tt)),
-  lt_le (whole 0) y b,
-  le₂ ℚ_ordered (λ x y. y) (λ x y. num 1) (λ x y. le (num 0) x ∷ le (x ⊞ y) (num 1) ∷ []) refl x y (lt_le (whole 0) x a, (lt_le (x +ℚ y) (whole 1) c, tt)),
-)

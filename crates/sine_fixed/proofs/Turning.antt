@@ -1,5 +1,5 @@
 -- Angles over one denominator, and turns of directions over it.
-use Rattle.std.proofs.Common.{◌≡◌, refl, sym, ap, ap₂, ◌∙◌, subst, subst₂, ℕ, ◌+◌, ◌*◌, ◌^◌, ◌<◌, ◌≤◌, ℤ, pos, negsuc, ◌+ℤ◌, ◌*ℤ◌, ◌≤ℤ◌}
+use Rattle.std.proofs.Common.{◌≡◌, [], ◌∷◌, refl, sym, ap, ap₂, ◌∙◌, subst, subst₂, ℕ, ◌+◌, ◌*◌, ◌^◌, ◌<◌, ◌≤◌, ℤ, pos, negsuc, ◌+ℤ◌, ◌*ℤ◌, ◌≤ℤ◌}
 use Rattle.std.proofs.Common.{unsigned_abs, FitsSigned, to_z, of_z, lit<, arith, mul-pos, mul-le-mul}
 use Rattle.std.specs.Int.{w32, w128}
 use Rattle.std.proofs.Math.Pow.{pow_mono}
@@ -7,11 +7,13 @@ use Rattle.std.proofs.lemmas.Nat.{pow_pos}
 use Rattle.std.proofs.lemmas.Grind.{pow_more}
 use Rattle.std.proofs.lemmas.Int.{ints, to_z-of_z, fits_signed_from_abs}
 use Rattle.ring_solver.specs.Expression.{num, ◌⊞◌, ◌⊠◌}
+use Rattle.ring_solver.specs.Ordered.{le}
+use Rattle.ring_solver.proofs.Certificate.{le₂}
 use Rattle.ring_solver.proofs.Solver.{ring₂, ring₃, ring₅}
 use Rattle.ring_solver.proofs.Whole.{pos_le, *ℤ_mono}
-use Rattle.rat_core.specs.Fraction.{ℚ, ◌÷◌, whole, ◌+ℚ◌, ◌*ℚ◌, ◌≤ℚ◌}
+use Rattle.rat_core.specs.Fraction.{ℚ, ◌÷◌, whole, ◌+ℚ◌, ◌*ℚ◌, ◌≤ℚ◌, ◌<ℚ◌}
 use Rattle.rat_core.specs.Written.{Written, value}
-use Rattle.rat_core.proofs.Laws.{ℚ_ring, over-mul, over_le_back, int-add, int-mul}
+use Rattle.rat_core.proofs.Laws.{ℚ_ring, ℚ_ordered, lt_le, over-mul, over_le_back, int-add, int-mul}
 use Rattle.rat_core.proofs.Order.{cancel, over_common}
 use Rattle.rat_core.proofs.Compare.{small_fits, product_fits}
 use Rattle.directed_fixed.proofs.Rounding.{product_size}
@@ -106,6 +108,15 @@ common_computed x y X Y D E X_is Y_is D_is E_is X_small Y_small positive positiv
     simp to_z-of_z
     (common_at X Y D E x.num y.num x.den y.den X_is Y_is D_is E_is
     (common_angles x.num y.num x.den y.den positive positive' small small' point.x_least point.x_most point.y_least point.y_most))
+
+-- both angles of a triangle are from 0 to 1
+pub unit_triangle : (x y : ℚ) → whole 0 <ℚ x → whole 0 <ℚ y → x +ℚ y <ℚ whole 1 → (whole 0 ≤ℚ x) × (x ≤ℚ whole 1) × (whole 0 ≤ℚ y) × (y ≤ℚ whole 1)
+unit_triangle x y a b c = (
+  lt_le (whole 0) x a,
+  le₂ ℚ_ordered (λ x y. x) (λ x y. num 1) (λ x y. le (num 0) y ∷ le (x ⊞ y) (num 1) ∷ []) refl x y (lt_le (whole 0) y b, (lt_le (x +ℚ y) (whole 1) c, tt)),
+  lt_le (whole 0) y b,
+  le₂ ℚ_ordered (λ x y. y) (λ x y. num 1) (λ x y. le (num 0) x ∷ le (x ⊞ y) (num 1) ∷ []) refl x y (lt_le (whole 0) x a, (lt_le (x +ℚ y) (whole 1) c, tt)),
+)
 
 -- ---- turns
 

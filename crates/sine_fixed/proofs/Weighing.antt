@@ -1,5 +1,5 @@
 -- Sums over the terms of a formal point, of numbers near the values of the directions.
-use Rattle.std.proofs.Common.{◌≡◌, refl, sym, ap, ◌∙◌, subst, ℕ, ◌+◌, ◌*◌, ◌^◌, ◌<◌, ◌≤◌, List, [], ◌∷◌, length, get_or, take}
+use Rattle.std.proofs.Common.{◌≡◌, refl, sym, ap, ◌∙◌, subst, ℕ, ◌+◌, ◌*◌, ◌^◌, ◌<◌, ◌≤◌, List, [], ◌∷◌, ◌++◌, length, get_or, take}
 use Rattle.std.proofs.Common.{ℤ, pos, ◌+ℤ◌, ◌-ℤ◌, ◌*ℤ◌, ◌≤ℤ◌, unsigned_abs, FitsSigned, arith}
 use Rattle.std.specs.Int.{w128, int_min, int_max}
 use Rattle.std.specs.List.{All}
@@ -20,9 +20,9 @@ use Rattle.exp_sums.specs.declared.terms.Term.{Term}
 use Rattle.exp_sums.specs.Limits.{terms_weight}
 use Rattle.exp_sums.specs.Weigh.{weigh_terms}
 use Rattle.exp_sums.proofs.Weigh.{weigh_terms-append}
-use Rattle.exp_sums.proofs.Weights.{terms_weight-cons}
+use Rattle.exp_sums.proofs.Weights.{terms_weight-cons, terms_weight-append}
 use Rattle.trig_meaning.specs.FromSomeOn.{FromSomeOn}
-use Rattle.trig_meaning.proofs.FromSomeOnLaws.{always, onward_both}
+use Rattle.trig_meaning.proofs.FromSomeOnLaws.{always, onward, onward_both}
 use Rattle.directed_fixed.specs.Ends.{Ends, Encloses, IsWithin, sum_of, multiple_of}
 use Rattle.directed_fixed.proofs.Rounding.{product_size}
 use Rattle.directed_fixed.proofs.Enclosing.{sum_encloses, multiple_encloses}
@@ -117,7 +117,7 @@ sum_around bits a b m n k u v e h l =
         × ((a +ℤ pos (256 * m) +ℤ (b +ℤ pos (256 * n))) ≤ℤ (a +ℤ b +ℤ pos (256 * k)))
     apart a b = (omega (arith, ints, e), omega (arith, ints, e))
 
-nothing_around : (bits : ℕ) → Encloses bits (around (pos 0) (256 * 0)) (whole 0)
+pub nothing_around : (bits : ℕ) → Encloses bits (around (pos 0) (256 * 0)) (whole 0)
 nothing_around bits =
     let e : whole 0 *ℚ whole (2 ^ bits) ≡ whole 0 = ring₁ ℚ_ring (λ u. num 0 ⊠ u) (λ u. num 0) refl (whole (2 ^ bits)) in
     record { low = subst (λ t. whole 0 ≤ℚ t) (sym e) (le_refl (whole 0)); high = subst (λ t. t ≤ℚ whole 0) (sym e) (le_refl (whole 0)) }
@@ -126,9 +126,13 @@ nothing_around bits =
 abbrev pub IsFrom : ℕ → ℤ → (ℕ → ℚ) → Type 0
 IsFrom bits z value = FromSomeOn (λ n. Encloses bits (from_low z) (value n))
 
+-- the sum of the values over the terms lies around a number, at most 256 away for each unit of weight
+abbrev pub IsSumNear : ℕ → (ℕ → Dir → ℚ) → ℤ → List Term → Type 0
+IsSumNear bits value z ts = FromSomeOn (λ n. Encloses bits (around z (256 * terms_weight ts)) (weigh_terms ℚ_ring ℚ_image (value n) ts))
+
 -- the sum of the values lies around the sum of the numbers
 pub sum_near : (bits : ℕ) (value : ℕ → Dir → ℚ) (f : Dir → ℤ) (ts : List Term) → All (λ (t : Term). IsFrom bits (f t.dir) (λ n. value n t.dir)) ts
-    → FromSomeOn (λ n. Encloses bits (around (weigh_terms ℤ_ring ℤ_image f ts) (256 * terms_weight ts)) (weigh_terms ℚ_ring ℚ_image (value n) ts))
+    → IsSumNear bits value (weigh_terms ℤ_ring ℤ_image f ts) ts
 sum_near bits value f [] h = always (λ n. nothing_around bits)
 sum_near bits value f (t ∷ ts) h =
     let P : Term → Type 0 = λ t. IsFrom bits (f t.dir) (λ n. value n t.dir) in
@@ -138,6 +142,37 @@ sum_near bits value f (t ∷ ts) h =
     ((t.c ÷ 1) *ℚ value n t.dir) (weigh_terms ℚ_ring ℚ_image (value n) ts) (terms_weight-cons t ts)
     (multiple_around bits t.c (f t.dir) (value n t.dir) sine) rest)
     (All-head P t ts h) (sum_near bits value f ts (All-tail P t ts h))
+
+-- the lower end of an interval of 256 units
+pub from_lower_end : (bits : ℕ) (value : ℕ → ℚ) (s : Ends) (low : ℤ) → FromSomeOn (λ n. Encloses bits s (value n)) → s.hi ≤ℤ (s.lo +ℤ pos 256) → low ≡ s.lo
+    → IsFrom bits low value
+from_lower_end bits value s low encloses narrow is =
+    subst (λ z. IsFrom bits z value) (sym is)
+    (onward (λ n h. wider bits s (from_low s.lo) (value n) (≤ℤ_refl s.lo) narrow h) encloses)
+  where
+    ≤ℤ_refl : (z : ℤ) → z ≤ℤ z
+    ≤ℤ_refl z = omega (arith, ints)
+
+-- ---- one term more
+
+-- the sum of the first i + 1 terms
+pub one_more : (bits : ℕ) (value : ℕ → Dir → ℚ) (ts : List Term) (i : ℕ) (e : Term) (total low : ℤ) → i < length ts
+    → IsSumNear bits value total (take i ts) → IsFrom bits low (λ n. value n (get_or ts i e).dir)
+    → IsSumNear bits value (total +ℤ (get_or ts i e).c *ℤ low) (take (i + 1) ts)
+one_more bits value ts i e total low below sum one =
+    let t = get_or ts i e in
+    let before = take i ts in
+    let weights : terms_weight (before ++ t ∷ []) ≡ terms_weight before + unsigned_abs t.c =
+    omega (arith, terms_weight-append before (t ∷ []), terms_weight-cons t []) in
+    subst (IsSumNear bits value (total +ℤ t.c *ℤ low)) (sym (take_more ts i e below))
+    (onward_both
+    (λ n h k.
+    subst (Encloses bits (around (total +ℤ t.c *ℤ low) (256 * terms_weight (before ++ t ∷ []))))
+    (sym (weigh_terms-append ℚ_ring ℚ_image (value n) before (t ∷ []) ∙ ap (λ z. weigh_terms ℚ_ring ℚ_image (value n) before +ℚ z)
+    (ℚ_ring.add-zero ((t.c ÷ 1) *ℚ value n t.dir))))
+    (sum_around bits total (t.c *ℤ low) (terms_weight before) (unsigned_abs t.c) (terms_weight (before ++ t ∷ []))
+    (weigh_terms ℚ_ring ℚ_image (value n) before) ((t.c ÷ 1) *ℚ value n t.dir) weights h (multiple_around bits t.c low (value n t.dir) k)))
+    sum one)
 
 -- ---- one sine
 

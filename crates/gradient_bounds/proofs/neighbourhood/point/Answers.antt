@@ -1,7 +1,7 @@
 use Rattle.std.proofs.Common.{unsigned_abs}
 use Rattle.rat_core.specs.Written.{value}
 use Rattle.rat_core.proofs.Laws.{over-zero}
-use Rattle.gradient_bounds.proofs.Tested.{unit_triangle}
+use Rattle.sine_fixed.proofs.Turning.{unit_triangle}
 use Rattle.gradient_bounds.proofs.neighbourhood.point.Goals as goal
 
 pub over_one_denominator-requires-clause-x_least : goal.over_one_denominator-requires-clause-x_least

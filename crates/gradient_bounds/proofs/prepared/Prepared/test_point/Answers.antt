@@ -6,7 +6,8 @@ use Rattle.gradient_bounds.specs.Neighbourhood.{Ball, IsClearIn}
 use Rattle.gradient_bounds.specs.Table.{no_drift}
 use Rattle.gradient_bounds.proofs.Boxes.{clear_at_point, clear_in_point}
 use Rattle.gradient_bounds.proofs.Margins.{slack_positive, clear_at_point_gives_corridor_lem}
-use Rattle.gradient_bounds.proofs.Tested.{no_drift_is, unit_triangle}
+use Rattle.sine_fixed.proofs.Turning.{unit_triangle}
+use Rattle.gradient_bounds.proofs.Tested.{no_drift_is}
 use Rattle.gradient_bounds.proofs.Tests.{IsEachTest, numbers_up, numbers_low, each_test}
 use Rattle.gradient_bounds.proofs.Numbers.{IsScale}
 use Rattle.gradient_bounds.proofs.prepared.Prepared.test_point.Given as given
