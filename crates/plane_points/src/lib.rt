@@ -8,8 +8,6 @@
 pub mod laws;
 mod plane;
 mod spot;
-#[cfg(test)]
-mod tests;
 
 pub use plane::Plane;
 pub use spot::Spot;

@@ -15,7 +15,7 @@ use std::marker::Model;
 
 /// The plane in which a triangle lies, with its circumcircle as the unit circle. It is seen as the triangle's angles at the corners 1
 /// and 2, in half turns.
-#[derive(Debug)]
+#[derive(Debug, Drop)]
 pub struct Plane {
     x: Frac,
     y: Frac,
