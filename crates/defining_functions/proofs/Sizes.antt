@@ -1,7 +1,7 @@
 -- Bounds for sizes.
-use Rattle.std.proofs.Common.{◌≡◌, ℕ, zero, suc, ◌≤◌, List, [], ◌∷◌, ◌++◌, length, slice_index_or, sym, subst, arith}
+use Rattle.std.proofs.Common.{◌≡◌, zero, suc, List, [], ◌∷◌, ◌++◌, slice_index_or, arith}
 use Rattle.std.specs.List.{All}
-use Rattle.std.proofs.lemmas.List.Elements.{All-append, All-nil}
+use Rattle.std.proofs.lemmas.List.Elements.{All-append}
 use Rattle.exp_sums.specs.FormalPoint.{FormalPoint, ◌-ₚ◌}
 use Rattle.exp_sums.specs.Limits.{weight}
 use Rattle.exp_sums.specs.Reach.{reach}

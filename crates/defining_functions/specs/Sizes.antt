@@ -1,6 +1,6 @@
 -- Weight, reach and bend together, and bounds for them.
 
-use Rattle.std.specs.Prelude.{ℕ, ◌≤◌}
+use Rattle.std.specs.Prelude.{◌≤◌}
 use Rattle.exp_sums.specs.FormalPoint.{FormalPoint}
 use Rattle.exp_sums.specs.Limits.{weight}
 use Rattle.exp_sums.specs.Reach.{reach}

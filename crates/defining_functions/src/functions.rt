@@ -178,6 +178,7 @@ impl Functions {
 
     /// The greatest weight, reach and bend of all functions, where the sizes are kept.
     pub fn greatest_sizes(&self) -> Option<Sizes>
+        ensures word { IsWord self.now }
         ensures small { IfSome result (λ most. AreSmall most) }
         ensures greatest { IfSome result (λ most. (v : FormalPoint) (k l : ℕ) → IsShift self.now v → IsPlace self.now k → IsPlace self.now l
             → AreAtMost (sizes_of (defining_function v self.now k l)) most) }
@@ -191,6 +192,7 @@ impl Functions {
     /// The greatest weight, reach and bend of the functions of the k-th upper corner, where the sizes are kept.
     pub fn greatest_in_row(&self, k: u32) -> Option<Sizes>
         requires { IsPlace self.now k }
+        ensures word { IsWord self.now }
         ensures small { IfSome result (λ most. AreSmall most) }
         ensures greatest { IfSome result (λ most. (v : FormalPoint) (l : ℕ) → IsShift self.now v → IsPlace self.now l
             → AreAtMost (sizes_of (defining_function v self.now k l)) most) }
@@ -204,14 +206,16 @@ impl Functions {
 
     /// One edge for each upper corner, in the order of the edges.
     pub fn upper_edges(&self) -> &[u32]
-        ensures { HaveAllHeights self.now upper_height result.now }
+        ensures shift { HasShift self.now }
+        ensures heights { HaveAllHeights self.now upper_height result.now }
     {
         &self.upper_edges
     }
 
     /// One edge for each lower corner, in the order of the edges.
     pub fn lower_edges(&self) -> &[u32]
-        ensures { HaveAllHeights self.now lower_height result.now }
+        ensures shift { HasShift self.now }
+        ensures heights { HaveAllHeights self.now lower_height result.now }
     {
         &self.lower_edges
     }

@@ -1,9 +1,9 @@
-use Rattle.std.proofs.Common.{◌≡◌, ◌+◌, [], ◌∷◌, ◌++◌, length, slice_index_or, sym, subst, ◌∙◌, arith}
+use Rattle.std.proofs.Common.{◌≡◌, ◌+◌, length, slice_index_or, sym, subst, ◌∙◌, arith}
 use Rattle.std.specs.List.{All}
 use Rattle.std.proofs.lemmas.List.{get_or_default}
 use Rattle.exp_sums.specs.FormalPoint.{FormalPoint}
 use Rattle.defining_functions.specs.declared.size_row.SizeRow.{SizeRow}
-use Rattle.defining_functions.specs.Kept.{IsSizeRow, IsSizeTable}
+use Rattle.defining_functions.specs.Kept.{IsSizeRow}
 use Rattle.defining_functions.specs.Sizes.{AreAtMost, AreSmall}
 use Rattle.defining_functions.specs.Tables.{IsTable}
 use Rattle.defining_functions.proofs.Tables.{IsTable-snoc}
