@@ -35,9 +35,9 @@ impl<S: Scale> WordTests<S> {
         ensures word { IfOk result (λ tests. tests ≡ word.now) }
         ensures unstable { IsErrOf result Unstable ↔ ¬ (IsStable word.now) }
     {
-        Ok(WordTests {
-            prepared: Prepared::new(alloc, word)?,
-        })
+        let mut prepared = Prepared::new(alloc, word)?;
+        prepared.keep_sizes(alloc)?;
+        Ok(WordTests { prepared })
     }
 
     /// Whether the word is seen to have a corridor at every point of the box.

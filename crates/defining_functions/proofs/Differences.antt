@@ -17,7 +17,7 @@ use Rattle.unfolding.specs.Triangle.{next_corner, corner_of, centre_of}
 use Rattle.unfolding.specs.Corners.{upper_corner, lower_corner}
 use Rattle.unfolding.proofs.Bounds.{centre_law}
 use Rattle.defining_functions.specs.Functions.{defining_function}
-use Rattle.defining_functions.specs.Heights.{cross_product, height}
+use Rattle.defining_functions.specs.Heights.{height}
 use Rattle.defining_functions.specs.Laws.{FunctionsAreDifferences, NumbersAddUp, WalkAddsUp, number}
 
 pub function_difference : FunctionsAreDifferences

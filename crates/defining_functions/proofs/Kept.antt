@@ -1,18 +1,25 @@
 -- What is kept of a word, read.
-use Rattle.std.proofs.Common.{◌≡◌, ℕ, ◌+◌, ◌-◌, ◌<◌, ◌≤◌, ◌^◌, List, length, slice_index_or, pos, FitsSigned, to_z, sym, ap, ap₂, subst, ◌∙◌, arith}
-use Rattle.std.specs.Global.{Vec}
+use Rattle.std.proofs.Common.{◌≡◌, refl, ℕ, zero, suc, [], ◌∷◌, Some, ◌+◌, ◌-◌, ◌<◌, ◌≤◌, ◌^◌, List, length, slice_index_or, pos, FitsSigned, to_z, Option, sym, ap, ap₂, subst, ◌∙◌, arith}
 use Rattle.std.specs.Int.{w64}
+use Rattle.std.proofs.lemmas.List.{get_or_default}
 use Rattle.std.proofs.lemmas.Int.{ints, to_z_pos, fits_signed_from_abs}
 use Rattle.edge_words.specs.Letters.{IsPlace}
 use Rattle.edge_words.specs.Word.{IsWord}
 use Rattle.exp_sums.specs.FormalPoint.{FormalPoint, zero_point, conj, ◌-ₚ◌, ◌*ₚ◌}
 use Rattle.exp_sums.specs.SineForm.{sine_form}
+use Rattle.exp_sums.specs.Limits.{weight}
+use Rattle.exp_sums.specs.Reach.{reach}
+use Rattle.exp_sums.specs.Bend.{bend}
 use Rattle.exp_sums.specs.declared.sizes.Sizes.{Sizes}
+use Rattle.defining_functions.specs.declared.size_row.SizeRow.{SizeRow}
+use Rattle.defining_functions.specs.declared.size_table.SizeTable.{SizeTable}
 use Rattle.unfolding.specs.Corners.{upper_corner, lower_corner}
 use Rattle.unfolding.specs.Shift.{IsShift, HasShift}
 use Rattle.defining_functions.specs.Functions.{defining_function, IsWithinFunctionLimits}
 use Rattle.defining_functions.specs.Heights.{height, upper_height, lower_height}
-use Rattle.defining_functions.specs.Kept.{StandsAt, IsSide, IsRow, IsUpperHeight, IsLowerHeight, IsFunctions, sizes_of}
+use Rattle.defining_functions.specs.Kept.{StandsAt, IsSide, IsUpperHeight, IsLowerHeight, IsSizeRow, IsSizeTable, IsSizeTableIfAny, IsFunctions}
+use Rattle.defining_functions.specs.Sizes.{sizes_of, AreAtMost, AreSmall}
+use Rattle.defining_functions.proofs.Sizes.{at_most_both, difference_small, sizes_are}
 use Rattle.defining_functions.proofs.Limits.{upper_height_limits, lower_height_limits}
 use Rattle.defining_functions.proofs.Differences.{function_difference}
 
@@ -22,7 +29,7 @@ unfolding height
 height_is w v t p q o is_t is_p is_o = λ i. sine_form (is_t i *ₚ (is_p i -ₚ is_o i))
 
 -- the place before k, and one more
-place_of_index : (k : ℕ) → 1 ≤ k → k - 1 + 1 ≡ k
+pub place_of_index : (k : ℕ) → 1 ≤ k → k - 1 + 1 ≡ k
 place_of_index k h = omega (arith, h)
 
 -- ---- what is added to a side
@@ -56,8 +63,14 @@ pub side_at : (IsWanted : ℕ → FormalPoint → Type 0) (n : ℕ) (heights : L
     (k z : ℕ) → 1 ≤ k → k ≤ n → StandsAt (IsWanted (k - 1)) heights (slice_index_or places (k - 1) z)
 side_at IsWanted n heights places h k z some below = h.each.each (k - 1) z (omega (arith, some, below))
 
-module _ (w : List ℕ) (us : List FormalPoint) (ups : List ℕ) (ls : List FormalPoint) (lps : List ℕ) (rs : List (Vec Sizes))
-    (h : IsFunctions w us ups ls lps rs) where
+-- an element of a list
+entry_at : {X : Type 0} (xs : List X) (i : ℕ) → i < length xs → (x : X) × (x ≡ slice_index_or xs i x)
+entry_at [] i below = absurd (omega (arith, below))
+entry_at (x ∷ xs) zero below = (x, refl)
+entry_at (x ∷ xs) (suc i) below = entry_at xs i (omega (arith, below))
+
+module _ (w : List ℕ) (us : List FormalPoint) (ups : List ℕ) (ls : List FormalPoint) (lps ues les : List ℕ) (table : Option SizeTable)
+    (h : IsFunctions w us ups ls lps ues les table) where
   -- at the place of the k-th edge stands the height of its corner
   pub upper_stands : (k i : ℕ) → IsPlace w k → i ≡ slice_index_or ups (k - 1) i → StandsAt (IsUpperHeight w (k - 1)) us i
   upper_stands k i place here =
@@ -73,21 +86,81 @@ module _ (w : List ℕ) (us : List FormalPoint) (ups : List ℕ) (ls : List Form
   lower_is : (l j : ℕ) (v : FormalPoint) → IsPlace w l → IsShift w v → j ≡ slice_index_or lps (l - 1) j → slice_index_or ls j zero_point ≡ lower_height v w l
   lower_is l j v place shift here = (lower_stands l j place here).is zero_point v shift ∙ ap (lower_height v w) (place_of_index l place.0)
 
-  -- the row of the k-th upper corner, and in it the sizes of the function of the l-th lower one
-  pub kept_row : (k i : ℕ) (row : Vec Sizes) → IsPlace w k → i ≡ slice_index_or ups (k - 1) i → row ≡ slice_index_or rs i row →
-      IsRow (slice_index_or us i zero_point) ls row.items
-  kept_row k i row place here is_row =
-      subst (λ (r : Vec Sizes). IsRow (slice_index_or us i zero_point) ls r.items) (sym is_row)
-      (h.each_row.each i row (upper_stands k i place here).in_range zero_point)
+  -- the row of the k-th upper corner
+  pub row_at : (k i : ℕ) (t : SizeTable) (row : SizeRow) → IsPlace w k → i ≡ slice_index_or ups (k - 1) i → IsSizeTable us ls t
+      → row ≡ slice_index_or t.rows.items i row → IsSizeRow (slice_index_or us i zero_point) ls row
+  row_at k i t row place here kept is_row =
+      subst (λ (r : SizeRow). IsSizeRow (slice_index_or us i zero_point) ls r) (sym is_row)
+      (kept.each.each i row (upper_stands k i place here).in_range zero_point)
 
-  pub kept_sizes : (k l i j : ℕ) (row : Vec Sizes) (s : Sizes) → IsPlace w k → IsPlace w l → i ≡ slice_index_or ups (k - 1) i
-      → j ≡ slice_index_or lps (l - 1) j →
-      row ≡ slice_index_or rs i row → s ≡ slice_index_or row.items j s → (v : FormalPoint) → IsShift w v → s ≡ sizes_of (defining_function v w k l)
-  kept_sizes k l i j row s upper lower here there is_row is_s v shift =
-      is_s
-      ∙ (kept_row k i row upper here is_row).each j s (lower_stands l j lower there).in_range zero_point
-      ∙ ap₂ (λ p q. sizes_of (p -ₚ q)) (upper_is k i v upper shift here) (lower_is l j v lower shift there)
-      ∙ ap sizes_of (sym (function_difference v w k l))
+  -- the difference of the heights at two places is the function of their corners
+  module _ (k l i j : ℕ) (upper : IsPlace w k) (lower : IsPlace w l) (here : i ≡ slice_index_or ups (k - 1) i) (there : j ≡ slice_index_or lps (l - 1) j) where
+    pub difference_is : (v : FormalPoint) → IsShift w v → slice_index_or us i zero_point -ₚ slice_index_or ls j zero_point ≡ defining_function v w k l
+    difference_is v shift =
+        ap₂ (λ p q. p -ₚ q) (upper_is k i v upper shift here) (lower_is l j v lower shift there) ∙ sym (function_difference v w k l)
+
+    -- so it is small
+    pub function_small : (v : FormalPoint) → IsShift w v → AreSmall (sizes_of (defining_function v w k l))
+    function_small v shift =
+        subst (λ f. AreSmall (sizes_of f)) (difference_is v shift)
+        (difference_small (slice_index_or us i zero_point) (slice_index_or ls j zero_point)
+        (h.each_upper.limits i zero_point (upper_stands k i upper here).in_range) (h.each_lower.limits j zero_point (lower_stands l j lower there).in_range))
+
+    -- and so are its sizes, from the two heights
+    pub made_sizes : (p q : FormalPoint) (s : Sizes) → p ≡ slice_index_or us i p → q ≡ slice_index_or ls j q → s.weight ≡ weight (p -ₚ q)
+        → s.reach ≡ reach (p -ₚ q) → s.bend ≡ bend (p -ₚ q) → (v : FormalPoint) → IsShift w v → s ≡ sizes_of (defining_function v w k l)
+    made_sizes p q s p_is q_is weight_is reach_is bend_is v shift =
+        let p_at = p_is ∙ get_or_default us i p zero_point (upper_stands k i upper here).in_range in
+        let q_at = q_is ∙ get_or_default ls j q zero_point (lower_stands l j lower there).in_range in
+        sizes_are s (p -ₚ q) weight_is reach_is bend_is ∙ ap sizes_of (ap₂ (λ p q. p -ₚ q) p_at q_at ∙ difference_is v shift)
+
+    -- or from the table
+    pub kept_sizes : (t : SizeTable) (row : SizeRow) (s : Sizes) → IsSizeTable us ls t → row ≡ slice_index_or t.rows.items i row
+        → s ≡ slice_index_or row.sizes.items j s → (v : FormalPoint) → IsShift w v → s ≡ sizes_of (defining_function v w k l)
+    kept_sizes t row s kept is_row is_s v shift =
+        is_s
+        ∙ (row_at k i t row upper here kept is_row).each.each j s (lower_stands l j lower there).in_range zero_point
+        ∙ ap sizes_of (difference_is v shift)
+
+    -- what is at least the sizes of the row is at least those of the function
+    pub row_greatest : (t : SizeTable) (row : SizeRow) → IsSizeTable us ls t → row ≡ slice_index_or t.rows.items i row → (v : FormalPoint) → IsShift w v
+        → AreAtMost (sizes_of (defining_function v w k l)) row.greatest
+    row_greatest t row kept is_row v shift =
+        let is = row_at k i t row upper here kept is_row in
+        let below = (lower_stands l j lower there).in_range in
+        subst (λ s. AreAtMost s row.greatest) (is.each.each j row.greatest below zero_point ∙ ap sizes_of (difference_is v shift))
+        (is.greatest j row.greatest (omega (arith, is.each.count, below)))
+
+  -- the place of an edge's height
+  upper_here : (k i : ℕ) → IsPlace w k → slice_index_or ups (k - 1) 0 ≡ slice_index_or ups (k - 1) i
+  upper_here k i place = get_or_default ups (k - 1) 0 i (omega (arith, place.0, place.1, h.each_upper.each.count))
+
+  lower_here : (l j : ℕ) → IsPlace w l → slice_index_or lps (l - 1) 0 ≡ slice_index_or lps (l - 1) j
+  lower_here l j place = get_or_default lps (l - 1) 0 j (omega (arith, place.0, place.1, h.each_lower.each.count))
+
+  -- the greatest sizes of a row are at least those of each function of it
+  pub row_most : (k i : ℕ) (t : SizeTable) (row : SizeRow) → IsPlace w k → i ≡ slice_index_or ups (k - 1) i → IsSizeTable us ls t
+      → row ≡ slice_index_or t.rows.items i row → (v : FormalPoint) (l : ℕ) → IsShift w v → IsPlace w l
+      → AreAtMost (sizes_of (defining_function v w k l)) row.greatest
+  row_most k i t row upper here kept is_row v l shift lower =
+      let j = slice_index_or lps (l - 1) 0 in
+      row_greatest k l i j upper lower here (lower_here l j lower) t row kept is_row v shift
+
+  -- and the greatest sizes of all are at least those of each function
+  pub table_most : (t : SizeTable) → IsSizeTable us ls t → (v : FormalPoint) (k l : ℕ) → IsShift w v → IsPlace w k → IsPlace w l
+      → AreAtMost (sizes_of (defining_function v w k l)) t.greatest
+  table_most t kept v k l shift upper lower =
+      let i = slice_index_or ups (k - 1) 0 in
+      let here = upper_here k i upper in
+      let below : i < length t.rows.items = omega (arith, (upper_stands k i upper here).in_range, kept.each.count) in
+      let entry = entry_at t.rows.items i below in
+      at_most_both (sizes_of (defining_function v w k l)) entry.0.greatest t.greatest
+      (row_most k i t entry.0 upper here kept entry.1 v l shift lower)
+      (subst (λ (row : SizeRow). AreAtMost row.greatest t.greatest) (sym entry.1) (kept.greatest i entry.0 below))
+
+-- the table that is kept
+pub table_of : (us ls : List FormalPoint) (kept : Option SizeTable) (t : SizeTable) → kept ≡ Some t → IsSizeTableIfAny us ls kept → IsSizeTable us ls t
+table_of us ls kept t is h = subst (IsSizeTableIfAny us ls) is h
 
 -- a size that is cast to a signed number
 pub cast_fits : (n m : ℕ) → n ≡ m → m ≤ 2 ^ 32 → FitsSigned w64 (pos n)

@@ -2,4 +2,6 @@ pub mod Tables
 pub mod Limits
 pub mod Differences
 pub mod SideSteps
+pub mod Sizes
 pub mod Kept
+pub mod Edges

@@ -7,8 +7,7 @@ use Rattle.std.proofs.Math.Seq.{get_or-append_seam}
 use Rattle.std.proofs.lemmas.Bool.{cases_lt}
 use Rattle.exp_sums.specs.FormalPoint.{FormalPoint}
 use Rattle.defining_functions.specs.Functions.{IsWithinFunctionLimits}
-use Rattle.defining_functions.specs.Tables.{IsTable}
-use Rattle.defining_functions.specs.Kept.{AreWithinLimits, StandsAt, IsSide, IsSideSoFar}
+use Rattle.defining_functions.specs.Kept.{AreWithinLimits, StandsAt, IsSideSoFar}
 use Rattle.defining_functions.proofs.Tables.{IsTable-snoc, IsTable-weaker, IsTable-nil}
 
 module _ (IsWanted : ℕ → FormalPoint → Type 0) where

@@ -1,5 +1,7 @@
 pub mod Functions
 pub mod Heights
 pub mod Laws
+pub mod Sizes
+pub mod Edges
 pub mod Tables
 pub mod Kept

@@ -1,5 +1,5 @@
 //! The defining functions of a word.
-ghost use Rattle.std.specs.Prelude.{◌≡◌, ◌↔◌, ◌+◌, ◌*◌, ◌≤◌, ◌≤ℤ◌, pos, length, IfOk, IsErrOf};
+ghost use Rattle.std.specs.Prelude.{◌≡◌, ◌↔◌, ◌+◌, ◌*◌, ◌≤◌, ◌≤ℤ◌, pos, length, ℕ, IfOk, IfSome, IsErrOf};
 ghost use Rattle.edge_words.specs.Letters.{IsPlace};
 ghost use Rattle.edge_words.specs.Word.{IsWord};
 ghost use Rattle.exp_sums.specs.FormalPoint.{FormalPoint};
@@ -9,13 +9,15 @@ ghost use Rattle.exp_sums.specs.Bend.{bend};
 ghost use Rattle.unfolding.specs.Shift.{IsShift, HasShift};
 ghost use Rattle.defining_functions.specs.Functions.{defining_function, IsWithinFunctionLimits};
 ghost use Rattle.defining_functions.specs.Heights.{upper_height, lower_height};
-ghost use Rattle.defining_functions.specs.Kept.{sizes_of};
+ghost use Rattle.defining_functions.specs.Sizes.{sizes_of, AreAtMost, AreSmall};
+ghost use Rattle.defining_functions.specs.Edges.{HaveAllHeights};
 ghost use Rattle.defining_functions.specs.declared.fault.FunctionsFault.TheVariants.{NotTranslate};
 
 use crate::fault::FunctionsFault;
+use crate::first_edges::first_edges;
 use crate::side::Side;
 use crate::sides::{lower_side, upper_side};
-use crate::sizes::rows;
+use crate::size_table::{SizeTable, size_table};
 use edge_words::Word;
 use exp_sums::{ExpSum, Sizes};
 use std::alloc::{AllocError as OutOfMemory, Global};
@@ -24,7 +26,7 @@ use unfolding::Unfolding;
 
 /// The defining functions of a word that has a shift, one for each upper and each lower corner of its unfolding.
 ///
-/// Corners are counted from 1. Only `of` and `function` take memory.
+/// Corners are counted from 1. Only `of`, `function` and `keep_sizes` take memory.
 #[derive(Drop)]
 pub struct Functions {
     word: Word,
@@ -32,8 +34,11 @@ pub struct Functions {
     uppers: Side,
     /// The heights of the lower corners.
     lowers: Side,
-    /// The sizes of the differences of heights: a row for each upper height, an entry in it for each lower one.
-    rows: Vec<Vec<Sizes>>,
+    /// One edge for each upper corner, and one for each lower one.
+    upper_edges: Vec<u32>,
+    lower_edges: Vec<u32>,
+    /// The sizes of all functions, if they are kept.
+    kept: Option<SizeTable>,
 }
 
 impl Model for Functions {
@@ -45,7 +50,8 @@ impl Model for Functions {
 
     ghost view = { λ f. f.word };
 
-    ghost invariant = { λ f. IsFunctions f.word f.uppers.heights.items f.uppers.places.items f.lowers.heights.items f.lowers.places.items f.rows.items };
+    ghost invariant = { λ f. IsFunctions f.word f.uppers.heights.items f.uppers.places.items f.lowers.heights.items f.lowers.places.items
+        f.upper_edges.items f.lower_edges.items f.kept };
 }
 
 impl Functions {
@@ -142,16 +148,76 @@ impl Functions {
         &self.lowers.heights[self.lowers.places[l as usize - 1]]
     }
 
-    /// The sizes of the function of the k-th upper and the l-th lower corner.
-    fn sizes(&self, k: u32, l: u32) -> Sizes
+    /// Weight, reach and bend of the function of the k-th upper and the l-th lower corner. Where they are not kept, they are
+    /// made from the two heights.
+    pub fn sizes(&self, k: u32, l: u32) -> Sizes
         requires upper { IsPlace self.now k }
         requires lower { IsPlace self.now l }
         ensures word { IsWord self.now }
         ensures shift { HasShift self.now }
         ensures is { (v : FormalPoint) → IsShift self.now v → result ≡ sizes_of (defining_function v self.now k l) }
+        ensures small { AreSmall result }
     {
-        let row = &self.rows[self.uppers.places[k as usize - 1]];
-        row[self.lowers.places[l as usize - 1]]
+        let upper = self.uppers.places[k as usize - 1];
+        let lower = self.lowers.places[l as usize - 1];
+        match &self.kept {
+            Some(table) => table.rows[upper].sizes[lower],
+            None => self.uppers.heights[upper].sizes_of_difference(&self.lowers.heights[lower]),
+        }
+    }
+
+    /// Makes the sizes of all functions and keeps them. What the calls answer stays the same, but `greatest_sizes` and
+    /// `greatest_in_row` have an answer from then on.
+    pub fn keep_sizes(&mut self, alloc: Global) -> Result<(), OutOfMemory>
+        ensures { self.new ≡ self.old }
+    {
+        let table = size_table(alloc, &self.uppers.heights, &self.lowers.heights)?;
+        self.kept = Some(table);
+        Ok(())
+    }
+
+    /// The greatest weight, reach and bend of all functions, where the sizes are kept.
+    pub fn greatest_sizes(&self) -> Option<Sizes>
+        ensures word { IsWord self.now }
+        ensures small { IfSome result (λ most. AreSmall most) }
+        ensures greatest { IfSome result (λ most. (v : FormalPoint) (k l : ℕ) → IsShift self.now v → IsPlace self.now k → IsPlace self.now l
+            → AreAtMost (sizes_of (defining_function v self.now k l)) most) }
+    {
+        match &self.kept {
+            Some(table) => Some(table.greatest),
+            None => None,
+        }
+    }
+
+    /// The greatest weight, reach and bend of the functions of the k-th upper corner, where the sizes are kept.
+    pub fn greatest_in_row(&self, k: u32) -> Option<Sizes>
+        requires { IsPlace self.now k }
+        ensures word { IsWord self.now }
+        ensures small { IfSome result (λ most. AreSmall most) }
+        ensures greatest { IfSome result (λ most. (v : FormalPoint) (l : ℕ) → IsShift self.now v → IsPlace self.now l
+            → AreAtMost (sizes_of (defining_function v self.now k l)) most) }
+    {
+        let upper = self.uppers.places[k as usize - 1];
+        match &self.kept {
+            Some(table) => Some(table.rows[upper].greatest),
+            None => None,
+        }
+    }
+
+    /// One edge for each upper corner, in the order of the edges.
+    pub fn upper_edges(&self) -> &[u32]
+        ensures shift { HasShift self.now }
+        ensures heights { HaveAllHeights self.now upper_height result.now }
+    {
+        &self.upper_edges
+    }
+
+    /// One edge for each lower corner, in the order of the edges.
+    pub fn lower_edges(&self) -> &[u32]
+        ensures shift { HasShift self.now }
+        ensures heights { HaveAllHeights self.now lower_height result.now }
+    {
+        &self.lower_edges
     }
 
     /// The functions of a word with a shift.
@@ -163,12 +229,15 @@ impl Functions {
         let word = u.word().copied();
         let uppers = upper_side(alloc, u, &conjugate)?;
         let lowers = lower_side(alloc, u, &conjugate)?;
-        let rows = rows(alloc, &uppers.heights, &lowers.heights)?;
+        let upper_edges = first_edges(alloc, &uppers.places)?;
+        let lower_edges = first_edges(alloc, &lowers.places)?;
         Ok(Functions {
             word,
             uppers,
             lowers,
-            rows,
+            upper_edges,
+            lower_edges,
+            kept: None,
         })
     }
 }

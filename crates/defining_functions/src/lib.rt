@@ -8,12 +8,14 @@
 #![tactic(auto)]
 
 mod fault;
+mod first_edges;
 mod functions;
 mod height;
 pub mod laws;
 mod side;
 mod sides;
-mod sizes;
+mod size_row;
+mod size_table;
 #[cfg(test)]
 mod tests;
 

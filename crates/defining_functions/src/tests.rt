@@ -1,6 +1,6 @@
 use crate::{Functions, FunctionsFault};
 use edge_words::Word;
-use exp_sums::{Dir, Term};
+use exp_sums::{Dir, Sizes, Term};
 use std::test::Fail;
 use unfolding::Unfolding;
 
@@ -125,5 +125,33 @@ fn tells_all_functions_of_123123(rt: HostRuntime) -> Result<(), Fail> {
             );
         }
     }
+    Ok(())
+}
+
+#[test]
+fn keeps_sizes_of_123123(rt: HostRuntime) -> Result<(), Fail> {
+    let word = Word::read(rt.alloc(), b"123123")?;
+    let unfolding = Unfolding::of(rt.alloc(), &word)?;
+    let mut functions = Functions::of(rt.alloc(), &unfolding)?;
+    assert!(rt; functions.greatest_sizes().is_none() && functions.greatest_in_row(1).is_none());
+    // Each edge shares one corner with the edge before it.
+    assert_eq!(rt;
+        functions.upper_edges().len() + functions.lower_edges().len(),
+        7
+    );
+    let sizes = functions.sizes(1, 4);
+    functions.keep_sizes(rt.alloc())?;
+    assert!(rt; functions.sizes(1, 4) == sizes);
+    let greatest = Sizes {
+        weight: 15,
+        reach: 64,
+        bend: 192,
+    };
+    assert!(rt; functions.greatest_sizes() == Some(greatest));
+    assert!(rt;
+        functions
+            .greatest_in_row(1)
+            .is_some_and(|row| row.weight == 15)
+    );
     Ok(())
 }

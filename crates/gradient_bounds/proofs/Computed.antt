@@ -1,5 +1,5 @@
 -- What a function needs, as the machine computes it: drift and margin fit their type, and are as they are defined.
-use Rattle.std.proofs.Common.{◌≡◌, sym, ap, subst, subst₂, ℕ, ◌+◌, ◌-◌, ◌*◌, ◌^◌, ◌<◌, ◌≤◌, ℤ, pos, negsuc, ◌+ℤ◌, ◌-ℤ◌, ◌*ℤ◌, neg_ℤ, ◌≤ℤ◌}
+use Rattle.std.proofs.Common.{◌≡◌, ◌↔◌, refl, sym, subst, ℕ, ◌+◌, ◌-◌, ◌*◌, ◌^◌, ◌<◌, ◌≤◌, ℤ, pos, negsuc, ◌+ℤ◌, ◌-ℤ◌, ◌*ℤ◌, neg_ℤ, ◌≤ℤ◌}
 use Rattle.std.proofs.Common.{unsigned_abs, FitsSigned, true, arith}
 use Rattle.std.proofs.Common.{mul-le-mul}
 use Rattle.std.proofs.Math.Pow.{pow_mono}
@@ -8,11 +8,14 @@ use Rattle.std.proofs.lemmas.Nat.{pow_pos}
 use Rattle.std.specs.Int.{w128, int_div_euclid}
 use Rattle.trig_meaning.specs.PartialSums.{pi_sum}
 use Rattle.trig_meaning.specs.FromSomeOn.{FromSomeOn}
+use Rattle.ring_solver.proofs.Whole.{≤ℤ_trans, *ℤ_mono}
 use Rattle.directed_fixed.specs.Rounding.{IsFloor, IsCeiling}
 use Rattle.directed_fixed.specs.Ends.{Encloses}
-use Rattle.directed_fixed.proofs.Rounding.{product_size, floor_of_division, ceiling_of_floor, rounded_mono, rounded_at_least, rounded_not_larger}
+use Rattle.directed_fixed.proofs.Rounding.{product_size, floor_of_division, ceiling_of_floor, rounded_mono, rounded_at_least, rounded_at_most}
 use Rattle.directed_fixed.proofs.PiSums.{pi_units, pi_size}
 use Rattle.gradient_bounds.specs.declared.neighbourhood.Neighbourhood.{Neighbourhood}
+use Rattle.gradient_bounds.specs.declared.angles.Angles.{Angles}
+use Rattle.sine_fixed.specs.Angles.{IsAngles}
 use Rattle.gradient_bounds.specs.Neighbourhood.{IsNeighbourhood}
 use Rattle.gradient_bounds.specs.Decision.{rounded_up, drift_units, margin_units}
 use Rattle.sine_fixed.proofs.Turning.{fits_128}
@@ -28,13 +31,13 @@ pub record IsDividend (H R p : ℤ) : Type 0 where
   pub product : FitsSigned w128 (H *ℤ (R *ℤ p))
   pub size : unsigned_abs (H *ℤ (R *ℤ p)) ≤ 2 ^ 90
 
-dividend_of : (H R p : ℤ) → unsigned_abs H ≤ 2 ^ 62 → pos 0 ≤ℤ R → R ≤ℤ pos 4259840 → pos 0 ≤ℤ p → p ≤ℤ pos 1 → IsDividend H R p
+dividend_of : (H R p : ℤ) → unsigned_abs H ≤ 2 ^ 62 → pos 0 ≤ℤ R → R ≤ℤ pos 8519680 → pos 0 ≤ℤ p → p ≤ℤ pos 1 → IsDividend H R p
 dividend_of H R p H_small at_least slow low high =
-    let R_small : unsigned_abs R ≤ 2 ^ 23 = omega (arith, ints) in
+    let R_small : unsigned_abs R ≤ 2 ^ 24 = omega (arith, ints) in
     let p_small : unsigned_abs p ≤ 1 = omega (arith, ints) in
-    let factor : unsigned_abs (R *ℤ p) ≤ 2 ^ 23 * 1 = product_size R p (2 ^ 23) 1 R_small p_small in
-    let factor_small : unsigned_abs (R *ℤ p) ≤ 2 ^ 23 = omega arith in
-    let product : unsigned_abs (H *ℤ (R *ℤ p)) ≤ 2 ^ 62 * 2 ^ 23 = product_size H (R *ℤ p) (2 ^ 62) (2 ^ 23) H_small factor_small in
+    let factor : unsigned_abs (R *ℤ p) ≤ 2 ^ 24 * 1 = product_size R p (2 ^ 24) 1 R_small p_small in
+    let factor_small : unsigned_abs (R *ℤ p) ≤ 2 ^ 24 = omega arith in
+    let product : unsigned_abs (H *ℤ (R *ℤ p)) ≤ 2 ^ 62 * 2 ^ 24 = product_size H (R *ℤ p) (2 ^ 62) (2 ^ 24) H_small factor_small in
     let size : unsigned_abs (H *ℤ (R *ℤ p)) ≤ 2 ^ 90 = omega arith in
     record {
       pi = fits_128 H (omega arith);
@@ -47,11 +50,11 @@ dividend_of H R p H_small at_least slow low high =
     }
 
 -- the same for the numbers of a scale, where the reach is converted
-pub dividend_at : (bits : ℕ) (L P H R from p : ℤ) → bits ≤ 60 → FromSomeOn (λ n. Encloses bits (record { lo = L; hi = P }) (pi_sum n)) → P ≡ L +ℤ pos 1
-    → H ≡ P → from ≡ R → pos 0 ≤ℤ R → R ≤ℤ pos 4259840 → pos 0 ≤ℤ p → p ≤ℤ pos 1 → IsDividend H from p
-dividend_at bits L P H R from p room pi unit H_is from_is at_least slow low high =
+pub dividend_at : (bits : ℕ) (L P H from p : ℤ) (reach : ℕ) → bits ≤ 60 → FromSomeOn (λ n. Encloses bits (record { lo = L; hi = P }) (pi_sum n))
+    → P ≡ L +ℤ pos 1 → H ≡ P → from ≡ pos reach → reach ≤ 8519680 → pos 0 ≤ℤ p → p ≤ℤ pos 1 → IsDividend H from p
+dividend_at bits L P H from p reach room pi unit H_is from_is slow low high =
     let size : unsigned_abs H ≤ 2 ^ 62 = subst (λ t. unsigned_abs t ≤ 2 ^ 62) (sym H_is) (pi_size bits L P room pi unit).1 in
-    subst (λ z. IsDividend H z p) (sym from_is) (dividend_of H R p size at_least slow low high)
+    subst (λ z. IsDividend H z p) (sym from_is) (dividend_of H (pos reach) p size (omega (arith, ints)) (omega (arith, ints)) low high)
 
 -- what is rounded up is the ceiling, and there is one ceiling
 rounded_up_ceiling : (n : ℤ) (d : ℕ) → 0 < d → IsCeiling (rounded_up n (pos d)) n (pos d)
@@ -85,33 +88,6 @@ ceiling_is q n (negsuc d) positive h = absurd positive.le
 pub is_its_size : (z : ℤ) → pos 0 ≤ℤ z → z ≡ pos (unsigned_abs z)
 is_its_size z h = omega (arith, ints)
 
--- the drift, as it is rounded up
-pub drift_is : (pi D R : ℤ) (r : Neighbourhood) → IsNeighbourhood r → pos 0 ≤ℤ R → IsCeiling D (pi *ℤ (R *ℤ r.radius)) r.centre.den
-    → D ≡ drift_units pi r (unsigned_abs R)
-drift_is pi D R r near low ceiling = ceiling_is D (pi *ℤ (pos (unsigned_abs R) *ℤ r.radius)) r.centre.den near.angles.positive
-    (subst (λ z. IsCeiling D (pi *ℤ (z *ℤ r.radius)) r.centre.den) (is_its_size R low) ceiling)
-
--- ---- the sum
-
--- a drift and a margin, and their sum
-pub record IsSum (D M : ℤ) : Type 0 where
-  pub drift : FitsSigned w128 D
-  pub margin : FitsSigned w128 M
-  pub sum : FitsSigned w128 (D +ℤ M)
-  pub at_least : pos 1 ≤ℤ (D +ℤ M)
-  pub size : unsigned_abs (D +ℤ M) ≤ 2 ^ 100
-
-sum_of : (D M : ℤ) → pos 0 ≤ℤ D → unsigned_abs D ≤ 2 ^ 90 → pos 1 ≤ℤ M → unsigned_abs M ≤ 2 ^ 90 → IsSum D M
-sum_of D M low small one light =
-    let size : unsigned_abs (D +ℤ M) ≤ 2 ^ 100 = omega (arith, ints) in
-    record {
-      drift = fits_128 D (omega arith);
-      margin = fits_128 M (omega arith);
-      sum = fits_128 (D +ℤ M) (omega arith);
-      at_least = omega (arith, ints);
-      size = size;
-    }
-
 product_at_least : (H p : ℤ) (r : ℕ) → pos 0 ≤ℤ H → pos 0 ≤ℤ p → pos 0 ≤ℤ (H *ℤ (pos r *ℤ p))
 product_at_least (pos h) (pos q) r low low' = omega (arith, ints)
 product_at_least (pos h) (negsuc q) r low low' = absurd low'.le
@@ -130,14 +106,6 @@ drift_at_least H r reach low near = at r.centre.den near.angles.positive
         (rounded_up_is_ceiling (H *ℤ (pos reach *ℤ r.radius)) (pos d) positive)
         (no_multiple d (H *ℤ (pos reach *ℤ r.radius)) (product_at_least H r.radius reach low near.at_least))
     at (negsuc d) positive = absurd positive.le
-
--- a drift is at most 2^90
-drift_size : (H : ℤ) (r : Neighbourhood) (reach : ℕ) → IsNeighbourhood r → unsigned_abs H ≤ 2 ^ 62 → reach ≤ 4259840
-    → unsigned_abs (drift_units H r reach) ≤ 2 ^ 90
-drift_size H r reach near small slow =
-    rounded_not_larger true (drift_units H r reach) (H *ℤ (pos reach *ℤ r.radius)) r.centre.den (2 ^ 90) near.angles.positive
-    (rounded_up_is_ceiling (H *ℤ (pos reach *ℤ r.radius)) r.centre.den near.angles.positive)
-    (dividend_of H (pos reach) r.radius small (omega (arith, ints)) (omega (arith, ints)) near.at_least near.at_most).size
 
 -- a margin is from 1 to 2^90
 pub margin_between : (bits low weight : ℕ) → bits ≤ 60 → weight ≤ 16384 → (pos 1 ≤ℤ margin_units bits low weight) × (unsigned_abs
@@ -165,38 +133,75 @@ pi_at_least bits L H unit pi = above L H (pi_units bits L H unit pi).0 unit
     above : (L H : ℤ) → pos 0 ≤ℤ L → H ≡ L +ℤ pos 1 → pos 0 ≤ℤ H
     above L H h k = omega (arith, ints)
 
-pub sum_fits : (bits low : ℕ) (L H D M : ℤ) (r : Neighbourhood) (weight reach : ℕ) → bits ≤ 60
-    → FromSomeOn (λ n. Encloses bits (record { lo = L; hi = H }) (pi_sum n)) → H ≡ L +ℤ pos 1 → IsNeighbourhood r → weight ≤ 16384 → reach ≤ 4259840
-    → D ≡ drift_units H r reach → M ≡ margin_units bits low weight → IsSum D M
-sum_fits bits low L H D M r weight reach room pi unit near light slow D_is M_is =
-    let size = (pi_size bits L H room pi unit).1 in
-    let least : pos 0 ≤ℤ H = pi_at_least bits L H unit pi in
-    let margin = margin_between bits low weight room light in
-    subst₂ IsSum (sym D_is) (sym M_is) (sum_of (drift_units H r reach) (margin_units bits low weight) (drift_at_least H r reach least near)
-    (drift_size H r reach near size slow) margin.0 margin.1)
-
 -- ---- what is needed
 
--- the errors at a weight W, and a threshold T
-pub record IsNeeded (W T : ℤ) : Type 0 where
-  pub weight : FitsSigned w128 W
-  pub threshold : FitsSigned w128 T
-  pub errors : FitsSigned w128 (pos 256 *ℤ W)
-  pub sum : FitsSigned w128 (pos 256 *ℤ W +ℤ T)
-  pub is : pos 256 *ℤ W +ℤ T ≡ pos (256 * unsigned_abs W) +ℤ T
+-- the errors at a weight, and the margin
+pub record IsAllowance (w : ℕ) (from M : ℤ) : Type 0 where
+  pub weight : FitsSigned w128 from
+  pub margin : FitsSigned w128 M
+  pub errors : FitsSigned w128 (pos 256 *ℤ from)
+  pub sum : FitsSigned w128 (pos 256 *ℤ from +ℤ M)
+  pub is : pos 256 *ℤ from +ℤ M ≡ pos (256 * w) +ℤ M
+  pub size : unsigned_abs (pos 256 *ℤ from +ℤ M) ≤ 2 ^ 77
 
-pub needed_fits : (W T : ℤ) → pos 0 ≤ℤ W → W ≤ℤ pos 16384 → unsigned_abs T ≤ 2 ^ 100 → IsNeeded W T
-needed_fits W T low light small =
-    let factor : unsigned_abs W ≤ 16384 = omega (arith, ints) in
-    let errors : pos 256 *ℤ W ≡ pos (256 * unsigned_abs W) = ap (λ z. pos 256 *ℤ z) (is_its_size W low) in
+pub allowance_of : (w : ℕ) (from M : ℤ) → w ≤ 32768 → from ≡ pos w → unsigned_abs M ≤ 2 ^ 76 → IsAllowance w from M
+allowance_of w from M light from_is small = subst (λ z. IsAllowance w z M) (sym from_is) (record {
+  weight = fits_128 (pos w) (omega arith);
+  margin = fits_128 M (omega arith);
+  errors = fits_128 (pos (256 * w)) (omega arith);
+  sum = fits_128 (pos (256 * w) +ℤ M) (larger (256 * w) M (omega arith) small);
+  is = refl;
+  size = added (256 * w) M (omega arith) small;
+})
+  where
+    added : (n : ℕ) (M : ℤ) → n ≤ 2 ^ 30 → unsigned_abs M ≤ 2 ^ 76 → unsigned_abs (pos n +ℤ M) ≤ 2 ^ 77
+    added n M h k = omega (arith, ints)
+
+    larger : (n : ℕ) (M : ℤ) → n ≤ 2 ^ 30 → unsigned_abs M ≤ 2 ^ 76 → unsigned_abs (pos n +ℤ M) ≤ 2 ^ 120
+    larger n M h k = omega (arith, ints)
+
+-- A difference t less an allowance A, times a denominator. The other side of the comparison is n.
+pub record IsCompared (t A d n : ℤ) : Type 0 where
+  pub allowance : FitsSigned w128 A
+  pub rest : FitsSigned w128 (t -ℤ A)
+  pub denominator : FitsSigned w128 d
+  pub product : FitsSigned w128 ((t -ℤ A) *ℤ d)
+  pub other : FitsSigned w128 n
+
+pub compared_of : (t A n : ℤ) (a : Angles) → IsAngles a → unsigned_abs t ≤ 2 ^ 77 → unsigned_abs A ≤ 2 ^ 77 → FitsSigned w128 n → IsCompared t A a.den n
+compared_of t A n a angles h k other =
+    let d = a.den in
+    let rest : unsigned_abs (t -ℤ A) ≤ 2 ^ 78 = taken t A h k in
+    let small : unsigned_abs d ≤ 2 ^ 42 = sized d angles.positive angles.small in
+    let product : unsigned_abs ((t -ℤ A) *ℤ d) ≤ 2 ^ 78 * 2 ^ 42 = product_size (t -ℤ A) d (2 ^ 78) (2 ^ 42) rest small in
     record {
-      weight = fits_128 W (omega arith);
-      threshold = fits_128 T (omega arith);
-      errors = subst (FitsSigned w128) (sym errors) (fits_128 (pos (256 * unsigned_abs W)) (omega arith));
-      sum = subst (λ z. FitsSigned w128 (z +ℤ T)) (sym errors) (fits_128 (pos (256 * unsigned_abs W) +ℤ T) (added (256 * unsigned_abs W) T
-          (omega arith) small));
-      is = ap (λ z. z +ℤ T) errors;
+      allowance = fits_128 A (omega arith);
+      rest = fits_128 (t -ℤ A) (omega arith);
+      denominator = fits_128 d (omega arith);
+      product = fits_128 ((t -ℤ A) *ℤ d) (omega arith);
+      other = other;
     }
   where
-    added : (n : ℕ) (T : ℤ) → n ≤ 2 ^ 30 → unsigned_abs T ≤ 2 ^ 100 → unsigned_abs (pos n +ℤ T) ≤ 2 ^ 120
-    added n T h k = omega (arith, ints)
+    taken : (t A : ℤ) → unsigned_abs t ≤ 2 ^ 77 → unsigned_abs A ≤ 2 ^ 77 → unsigned_abs (t -ℤ A) ≤ 2 ^ 78
+    taken t A h k = omega (arith, ints)
+
+    sized : (d : ℤ) → pos 1 ≤ℤ d → d ≤ℤ pos (2 ^ 42) → unsigned_abs d ≤ 2 ^ 42
+    sized d h k = omega (arith, ints)
+
+-- What is needed is at most t exactly where n is at most what t exceeds the allowance by, times the denominator.
+pub needed_iff : (n d e m t : ℤ) → pos 1 ≤ℤ d → (e +ℤ (rounded_up n d +ℤ m)) ≤ℤ t ↔ n ≤ℤ ((t -ℤ (e +ℤ m)) *ℤ d)
+needed_iff n (pos d) e m t positive =
+    let some : 0 < d = omega (arith, ints) in
+    let r = rounded_up n (pos d) in
+    let rest = t -ℤ (e +ℤ m) in
+    let ceiling = rounded_up_is_ceiling n (pos d) positive in (
+      λ h. ≤ℤ_trans n (r *ℤ pos d) (rest *ℤ pos d) ceiling.at_least (*ℤ_mono r rest d (over e r m t h)),
+      λ h. back e r m t (rounded_at_most true rest r n d some ceiling h),
+    )
+  where
+    over : (e r m t : ℤ) → (e +ℤ (r +ℤ m)) ≤ℤ t → r ≤ℤ (t -ℤ (e +ℤ m))
+    over e r m t h = omega (arith, ints)
+
+    back : (e r m t : ℤ) → r ≤ℤ (t -ℤ (e +ℤ m)) → (e +ℤ (r +ℤ m)) ≤ℤ t
+    back e r m t h = omega (arith, ints)
+needed_iff n (negsuc d) e m t positive = absurd positive.le

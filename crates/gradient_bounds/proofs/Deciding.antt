@@ -1,5 +1,5 @@
 -- How the extremes and the pairs decide.
-use Rattle.std.proofs.Common.{◌≡◌, ◌↔◌, refl, sym, ap₂, ◌∙◌, subst, subst₂, ℕ, ◌+◌, ◌-◌, ◌*◌, ◌^◌, ◌≤◌, List, ℤ, pos, negsuc, ◌+ℤ◌, ◌-ℤ◌, ◌*ℤ◌, neg_ℤ, ◌≤ℤ◌}
+use Rattle.std.proofs.Common.{◌≡◌, ◌↔◌, refl, sym, ap, subst, subst₂, ℕ, ◌+◌, ◌-◌, ◌*◌, ◌^◌, ◌≤◌, List, ℤ, pos, negsuc, ◌+ℤ◌, ◌-ℤ◌, ◌*ℤ◌, neg_ℤ, ◌≤ℤ◌}
 use Rattle.std.proofs.Common.{unsigned_abs, slice_index_or, FitsSigned, T, Bool, true, false, not, arith, mul-le-mul, mul-le-mul_left, mul-le-mul_right}
 use Rattle.std.specs.Prelude.{int_le as is_at_most, int_lt as is_less, IsTrue}
 use Rattle.std.specs.Int.{w128}
@@ -16,12 +16,13 @@ use Rattle.trig_meaning.specs.FromSomeOn.{FromSomeOn}
 use Rattle.directed_fixed.specs.Ends.{Encloses}
 use Rattle.directed_fixed.proofs.Rounding.{rounded_mono}
 use Rattle.defining_functions.specs.Functions.{defining_function}
-use Rattle.gradient_bounds.specs.declared.most.Most.{Most}
+use Rattle.exp_sums.specs.declared.sizes.Sizes.{Sizes}
+use Rattle.defining_functions.specs.Sizes.{sizes_of, AreAtMost}
 use Rattle.gradient_bounds.specs.declared.neighbourhood.Neighbourhood.{Neighbourhood}
 use Rattle.gradient_bounds.specs.Neighbourhood.{IsNeighbourhood}
-use Rattle.gradient_bounds.specs.Decision.{rounded_up, drift_units, needed_units, needed, difference, Reaches, FallsBelow, EachReaches}
-use Rattle.gradient_bounds.specs.Decision.{SomeFallsBelow, IsInLimits, IsWithinMost, IsMost}
-use Rattle.gradient_bounds.proofs.Computed.{rounded_up_is_ceiling, drift_at_least, pi_at_least}
+use Rattle.gradient_bounds.specs.Decision.{rounded_up, drift_units, margin_units, needed_units, needed, difference, Reaches, FallsBelow}
+use Rattle.gradient_bounds.specs.Decision.{SomeFallsBelow, SomeInRowFalls, IsGreatest}
+use Rattle.gradient_bounds.proofs.Computed.{rounded_up_is_ceiling, drift_at_least, pi_at_least, needed_iff}
 
 -- ---- one pair
 
@@ -37,44 +38,48 @@ at_most_iff a b = (λ h. le_z_yes (subst T (sym h) tt), λ h. is_true (is_at_mos
 pub not_less : (a b : ℤ) → is_less a b ≡ false → b ≤ℤ a
 not_less a b h = lt_z_no (subst (λ t. T (not t)) (sym h) tt)
 
--- a size that is known with the shift is from 0 on
-pub size_at_least : (w : List ℕ) (g : FormalPoint → ℕ) (x : ℤ) → HasShift w → ((v : FormalPoint) → IsShift w v → x ≡ pos (g v)) → pos 0 ≤ℤ x
-size_at_least w g x shift is = from (g shift.0) x (is shift.0 shift.1)
-  where
-    from : (n : ℕ) (x : ℤ) → x ≡ pos n → pos 0 ≤ℤ x
-    from n x h = omega (arith, ints)
+-- what the machine compares
+pub needed_test : (bits low : ℕ) (H : ℤ) (r : Neighbourhood) (w p : ℕ) (t A n : ℤ) → IsNeighbourhood r → A ≡ pos (256 * w) +ℤ margin_units bits low w
+    → n ≡ H *ℤ (pos p *ℤ r.radius) → IsTrue (is_at_most n ((t -ℤ A) *ℤ r.centre.den)) ↔ needed_units bits low H r w p ≤ℤ t
+needed_test bits low H r w p t A n near A_is n_is =
+    let m = margin_units bits low w in
+    let product = H *ℤ (pos p *ℤ r.radius) in
+    let iff = needed_iff product r.centre.den (pos (256 * w)) m t near.angles.positive in
+    let machine = at_most_iff n ((t -ℤ A) *ℤ r.centre.den) in (
+      λ h. iff.1 (subst₂ (λ a b. a ≤ℤ ((t -ℤ b) *ℤ r.centre.den)) n_is A_is (machine.0 h)),
+      λ h. machine.1 (subst₂ (λ a b. a ≤ℤ ((t -ℤ b) *ℤ r.centre.den)) (sym n_is) (sym A_is) (iff.0 h)),
+    )
 
--- what is needed, as it is computed from the weight x and the reach y of a function of w
-pub record IsNeed (bits low : ℕ) (H : ℤ) (r : Neighbourhood) (w : List ℕ) (k l : ℕ) (t x y : ℤ) : Type 0 where
+-- The sizes s of the function of two corners, and a test of what functions of such sizes need.
+pub record IsTestOf (bits low : ℕ) (H : ℤ) (r : Neighbourhood) (w : List ℕ) (k l : ℕ) (s : Sizes) (b : Bool) (z : ℤ) : Type 0 where
   pub shift : HasShift w
-  pub is : t ≡ needed_units bits low H r (unsigned_abs x) (unsigned_abs y)
-  pub weight_is : (v : FormalPoint) → IsShift w v → x ≡ pos (weight (defining_function v w k l))
-  pub reach_is : (v : FormalPoint) → IsShift w v → y ≡ pos (reach (defining_function v w k l))
+  pub sizes : (v : FormalPoint) → IsShift w v → s ≡ sizes_of (defining_function v w k l)
+  pub test : IsTrue b ↔ needed_units bits low H r s.weight s.reach ≤ℤ z
 
-module _ (bits low : ℕ) (H : ℤ) (r : Neighbourhood) (w : List ℕ) (k l : ℕ) (t x y : ℤ) (need : IsNeed bits low H r w k l t x y) where
-  need_of : (v : FormalPoint) → IsShift w v → t ≡ needed bits low H r (defining_function v w k l)
-  need_of v s = need.is ∙ ap₂ (λ a b. needed_units bits low H r (unsigned_abs a) (unsigned_abs b)) (need.weight_is v s) (need.reach_is v s)
+module _ (bits low : ℕ) (H : ℤ) (r : Neighbourhood) (w : List ℕ) (k l : ℕ) (s : Sizes) (b : Bool) (z : ℤ) (is : IsTestOf bits low H r w k l s b z) where
+  need_of : (v : FormalPoint) → IsShift w v → needed_units bits low H r s.weight s.reach ≡ needed bits low H r (defining_function v w k l)
+  need_of v shift = ap (λ (s : Sizes). needed_units bits low H r s.weight s.reach) (is.sizes v shift)
 
-  pub reaches_iff : (z : ℤ) → IsTrue (is_at_most t z) ↔ Reaches (needed bits low H r) w k l z
-  reaches_iff z = (
-    λ h v s. subst (λ a. a ≤ℤ z) (need_of v s) ((at_most_iff t z).0 h),
-    λ h. (at_most_iff t z).1 (subst (λ a. a ≤ℤ z) (sym (need_of need.shift.0 need.shift.1)) (h need.shift.0 need.shift.1)),
+  pub reaches_iff : IsTrue b ↔ Reaches (needed bits low H r) w k l z
+  reaches_iff = (
+    λ h v shift. subst (λ a. a ≤ℤ z) (need_of v shift) (is.test.0 h),
+    λ h. is.test.1 (subst (λ a. a ≤ℤ z) (sym (need_of is.shift.0 is.shift.1)) (h is.shift.0 is.shift.1)),
   )
 
-  pub falls_iff : (z : ℤ) → IsTrue (is_at_most z (pos 0 -ℤ t)) ↔ FallsBelow (needed bits low H r) w k l z
-  falls_iff z = (
-    λ h v s. subst (λ a. z ≤ℤ neg_ℤ a) (need_of v s) (negated z t ((at_most_iff z (pos 0 -ℤ t)).0 h)),
-    λ h. (at_most_iff z (pos 0 -ℤ t)).1 (taken z t (subst (λ a. z ≤ℤ neg_ℤ a) (sym (need_of need.shift.0 need.shift.1)) (h need.shift.0 need.shift.1))),
+  pub falls_iff : (y : ℤ) → z ≡ pos 0 -ℤ y → IsTrue b ↔ FallsBelow (needed bits low H r) w k l y
+  falls_iff y z_is = (
+    λ h v shift. below y z (needed bits low H r (defining_function v w k l)) z_is (reaches_iff.0 h v shift),
+    λ h. reaches_iff.1 (λ v shift. above y z (needed bits low H r (defining_function v w k l)) z_is (h v shift)),
   )
     where
-      negated : (z t : ℤ) → z ≤ℤ (pos 0 -ℤ t) → z ≤ℤ neg_ℤ t
-      negated z t h = omega (arith, ints)
+      below : (y z t : ℤ) → z ≡ pos 0 -ℤ y → t ≤ℤ z → y ≤ℤ neg_ℤ t
+      below y z t h k = omega (arith, ints)
 
-      taken : (z t : ℤ) → z ≤ℤ neg_ℤ t → z ≤ℤ (pos 0 -ℤ t)
-      taken z t h = omega (arith, ints)
+      above : (y z t : ℤ) → z ≡ pos 0 -ℤ y → y ≤ℤ neg_ℤ t → t ≤ℤ z
+      above y z t h k = omega (arith, ints)
 
--- the negative of what is needed fits its type
-pub negative_fits : (t : ℤ) → unsigned_abs t ≤ 2 ^ 101 → FitsSigned w128 (pos 0 -ℤ t)
+-- the negative of a difference fits its type
+pub negative_fits : (t : ℤ) → unsigned_abs t ≤ 2 ^ 77 → FitsSigned w128 (pos 0 -ℤ t)
 negative_fits t h = fits_signed_from_abs w128 (pos 0 -ℤ t) (omega (arith, ints))
 
 -- ---- the extremes
@@ -106,31 +111,26 @@ needed_mono bits low H r a b c d positive near lighter slower =
     add_up : (x y : ℤ) (m n : ℕ) → x ≤ℤ y → m ≤ n → (pos (256 * a) +ℤ (x +ℤ pos m)) ≤ℤ (pos (256 * b) +ℤ (y +ℤ pos n))
     add_up x y m n h k = omega (arith, ints, lighter)
 
--- what the largest function would need is at least what each needs
-most_needs : (bits low : ℕ) (H : ℤ) (r : Neighbourhood) (w : List ℕ) (most : Most) (v : FormalPoint) (k l : ℕ) → pos 0 ≤ℤ H → IsNeighbourhood r
-    → IsInLimits most
-    → IsWithinMost w most k l → IsShift w v
-    → needed bits low H r (defining_function v w k l) ≤ℤ needed_units bits low H r (unsigned_abs most.weight) (unsigned_abs most.reach)
-most_needs bits low H r w most v k l positive near limits within shift =
+-- so what sizes that are at least those of a function need is at least what the function needs
+pub most_suffices : (bits low : ℕ) (L H : ℤ) (r : Neighbourhood) (w : List ℕ) (k l : ℕ) (most : Sizes) (z : ℤ) → H ≡ L +ℤ pos 1
+    → FromSomeOn (λ n. Encloses bits (record { lo = L; hi = H }) (pi_sum n)) → IsNeighbourhood r
+    → ((v : FormalPoint) → IsShift w v → AreAtMost (sizes_of (defining_function v w k l)) most)
+    → needed_units bits low H r most.weight most.reach ≤ℤ z → Reaches (needed bits low H r) w k l z
+most_suffices bits low L H r w k l most z unit pi near at_most reached v shift =
     let f = defining_function v w k l in
-    needed_mono bits low H r (weight f) (unsigned_abs most.weight) (reach f) (unsigned_abs most.reach) positive near
-    (as_size (weight f) most.weight (within.weight_at_most v shift)) (as_size (reach f) most.reach (within.reach_at_most v shift))
+    let h = at_most v shift in
+    through (needed bits low H r f) (needed_units bits low H r most.weight most.reach) z
+    (needed_mono bits low H r (weight f) most.weight (reach f) most.reach (pi_at_least bits L H unit pi) near h.weight h.reach) reached
   where
-    as_size : (n : ℕ) (z : ℤ) → pos n ≤ℤ z → n ≤ unsigned_abs z
-    as_size n z h = omega (arith, ints)
+    through : (a b c : ℤ) → a ≤ℤ b → b ≤ℤ c → a ≤ℤ c
+    through a b c h k = omega (arith, ints)
 
--- where the least difference reaches that, each difference reaches what its function needs
-pub least_suffices : (bits low : ℕ) (L H : ℤ) (r : Neighbourhood) (w : List ℕ) (most : Most) (uppers lowers : List ℤ) (least : ℤ) → H ≡ L +ℤ pos 1
-    → FromSomeOn (λ n. Encloses bits (record { lo = L; hi = H }) (pi_sum n)) → IsNeighbourhood r → IsMost w most
-    → ((i j : ℕ) → IsPlace w i → IsPlace w j → least ≤ℤ difference uppers lowers i j)
-    → needed_units bits low H r (unsigned_abs most.weight) (unsigned_abs most.reach) ≤ℤ least → EachReaches (needed bits low H r) w uppers lowers
-least_suffices bits low L H r w most uppers lowers least unit pi near is_most below reached k l p q v shift =
-    through (needed bits low H r (defining_function v w k l)) (needed_units bits low H r (unsigned_abs most.weight) (unsigned_abs most.reach)) least
-    (difference uppers lowers k l)
-    (most_needs bits low H r w most v k l (pi_at_least bits L H unit pi) near is_most.limits (is_most.each k l p q) shift) reached (below k l p q)
+-- a greater difference reaches as much
+pub reaches_more : (needs : FormalPoint → ℤ) (w : List ℕ) (k l : ℕ) (z y : ℤ) → z ≤ℤ y → Reaches needs w k l z → Reaches needs w k l y
+reaches_more needs w k l z y more h v shift = through (needs (defining_function v w k l)) z y (h v shift) more
   where
-    through : (a b c d : ℤ) → a ≤ℤ b → b ≤ℤ c → c ≤ℤ d → a ≤ℤ d
-    through a b c d h k l = omega (arith, ints)
+    through : (a b c : ℤ) → a ≤ℤ b → b ≤ℤ c → a ≤ℤ c
+    through a b c h k = omega (arith, ints)
 
 -- ---- a fall
 
@@ -169,6 +169,17 @@ none_falls bits low L H r w uppers lowers least unit pi near shift below above s
     through : (b c : ℤ) → pos 0 ≤ℤ b → b ≤ℤ c → pos 0 ≤ℤ c
     through b c h k = omega (arith, ints)
 
+-- in a row none does either
+pub none_in_row : (bits low : ℕ) (L H : ℤ) (r : Neighbourhood) (w : List ℕ) (uppers lowers : List ℤ) (k : ℕ) (least : ℤ) → H ≡ L +ℤ pos 1
+    → FromSomeOn (λ n. Encloses bits (record { lo = L; hi = H }) (pi_sum n)) → IsNeighbourhood r → HasShift w
+    → ((l : ℕ) → IsPlace w l → least ≤ℤ difference uppers lowers k l) → pos 0 ≤ℤ least → ¬ (SomeInRowFalls (needed bits low H r) w uppers lowers k)
+none_in_row bits low L H r w uppers lowers k least unit pi near shift below above some =
+    no_fall bits low L H r w k some.lower (difference uppers lowers k some.lower) unit pi near shift
+    (through least (difference uppers lowers k some.lower) above (below some.lower some.is_lower)) some.falls
+  where
+    through : (b c : ℤ) → pos 0 ≤ℤ b → b ≤ℤ c → pos 0 ≤ℤ c
+    through b c h k = omega (arith, ints)
+
 -- ---- what a comparison says of all
 
 -- what is false does not hold of what would follow
@@ -187,15 +198,22 @@ fails B none = (λ t. never B t, λ b. absurd (none b))
 pub false_not : (A : Type 0) → (IsTrue false ↔ A) → ¬ A
 false_not A h a = never ⊥ (h.1 a)
 
+-- ---- differences
+
 -- a lesser upper number and a greater lower one differ by less
-pub differences_in_order : (uppers lowers : List ℤ) (k l i j : ℕ) → slice_index_or uppers k (pos 0) ≤ℤ slice_index_or uppers (i - 1) (pos 0)
-    → slice_index_or lowers (j - 1) (pos 0) ≤ℤ slice_index_or lowers l (pos 0) → difference uppers lowers (k + 1) (l + 1) ≤ℤ difference uppers lowers i j
-differences_in_order uppers lowers k l i j h h' =
-    let back : k + 1 - 1 ≡ k = omega arith in
-    let back' : l + 1 - 1 ≡ l = omega arith in
-    subst₂ (λ a b. (slice_index_or uppers a (pos 0) -ℤ slice_index_or lowers b (pos 0)) ≤ℤ difference uppers lowers i j) (sym back) (sym back')
-    (in_order (slice_index_or uppers k (pos 0)) (slice_index_or uppers (i - 1) (pos 0)) (slice_index_or lowers (j - 1) (pos 0))
-    (slice_index_or lowers l (pos 0)) h h')
+pub differences_in_order : (uppers lowers : List ℤ) (k l i j : ℕ) → slice_index_or uppers (k - 1) (pos 0) ≤ℤ slice_index_or uppers (i - 1) (pos 0)
+    → slice_index_or lowers (j - 1) (pos 0) ≤ℤ slice_index_or lowers (l - 1) (pos 0) → difference uppers lowers k l ≤ℤ difference uppers lowers i j
+differences_in_order uppers lowers k l i j h h' = in_order (slice_index_or uppers (k - 1) (pos 0)) (slice_index_or uppers (i - 1) (pos 0))
+    (slice_index_or lowers (j - 1) (pos 0)) (slice_index_or lowers (l - 1) (pos 0)) h h'
   where
     in_order : (a b c d : ℤ) → a ≤ℤ b → c ≤ℤ d → (a -ℤ d) ≤ℤ (b -ℤ c)
     in_order a b c d h k = omega (arith, ints)
+
+-- of a row the difference from the greatest lower number is the least
+pub row_least : (w : List ℕ) (uppers lowers : List ℤ) (k nearest l : ℕ) (least : ℤ) → least ≡ difference uppers lowers k nearest
+    → IsGreatest w lowers nearest → IsPlace w l → least ≤ℤ difference uppers lowers k l
+row_least w uppers lowers k nearest l least is greatest lower = subst (λ z. z ≤ℤ difference uppers lowers k l) (sym is)
+    (in_order (slice_index_or uppers (k - 1) (pos 0)) (slice_index_or lowers (l - 1) (pos 0)) (slice_index_or lowers (nearest - 1) (pos 0)) (greatest l lower))
+  where
+    in_order : (a c d : ℤ) → c ≤ℤ d → (a -ℤ d) ≤ℤ (a -ℤ c)
+    in_order a c d h = omega (arith, ints)

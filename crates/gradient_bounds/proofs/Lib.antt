@@ -5,6 +5,8 @@ pub mod Largest
 pub mod Passing
 pub mod Numbers
 pub mod Deciding
+pub mod AllEdges
+pub mod Outermost
 pub mod Refusals
 pub mod Boxes
 pub mod Within

@@ -7,7 +7,7 @@ use Rattle.edge_words.specs.Letters.{IsPlace}
 use Rattle.exp_sums.specs.declared.terms.Term.{Term}
 use Rattle.exp_sums.specs.FormalPoint.{FormalPoint, terms}
 use Rattle.exp_sums.specs.Weigh.{weigh_terms}
-use Rattle.unfolding.specs.Shift.{IsShift}
+use Rattle.unfolding.specs.Shift.{IsShift, HasShift}
 use Rattle.defining_functions.specs.Functions.{defining_function}
 use Rattle.defining_functions.specs.Heights.{upper_height, lower_height}
 use Rattle.defining_functions.specs.Tables.{IsTable}
@@ -42,17 +42,28 @@ next_number w table heights numbers i z = table_step (λ j y. IsNumberOf w table
 
 -- ---- what the decision asks
 
-module _ (w : List ℕ) (table : List SineLow) (heights : ℕ → FormalPoint → FormalPoint) (numbers : List ℤ)
-    (h : IsTable (λ i z. IsNumberOf w table (heights i) z) (length w) numbers) where
-  pub are_numbers : AreNumbers w numbers
+-- the number at a place
+pub number_at : (w : List ℕ) (table : List SineLow) (heights : ℕ → FormalPoint → FormalPoint) (numbers : List ℤ)
+    → IsTable (λ i z. IsNumberOf w table (heights i) z) (length w) numbers → (k : ℕ) (d : ℤ) → IsPlace w k
+    → IsNumberOf w table (heights (k - 1)) (get_or numbers (k - 1) d)
+number_at w table heights numbers h k d place = let low = place.0 in let high = place.1 in h.each (k - 1) d (omega (arith, low, high))
+
+module _ (w : List ℕ) (table : List SineLow) (height : FormalPoint → List ℕ → ℕ → FormalPoint) (numbers : List ℤ) (shift : HasShift w)
+    (h : IsTable (λ i z. IsNumberOf w table (λ v. height v w (i + 1)) z) (length w) numbers) where
+  -- the number at a place is that of the height there
+  number_is : (k : ℕ) → IsPlace w k → get_or numbers (k - 1) (pos 0) ≡ number_in table (height shift.0 w k)
+  number_is k place =
+      let low = place.0 in
+      let back : k - 1 + 1 ≡ k = omega (arith, low) in
+      (number_at w table (λ i v. height v w (i + 1)) numbers h k (pos 0) place).is shift.0 shift.1
+      ∙ ap (λ j. number_in table (height shift.0 w j)) back
+
+  pub are_numbers : AreNumbers w height numbers
   are_numbers = record {
     count = h.count;
-    small = λ i z below. let here = (h.each i z (omega (arith, below, h.count))).small in omega (arith, here);
+    small = λ i z below. (h.each i z (omega (arith, below, h.count))).small;
+    same = λ i j p q is. number_is i p ∙ ap (number_in table) (is shift.0 shift.1) ∙ sym (number_is j q);
   }
-
-  -- the number at a place
-  pub number_at : (k : ℕ) (d : ℤ) → IsPlace w k → IsNumberOf w table (heights (k - 1)) (get_or numbers (k - 1) d)
-  number_at k d place = let low = place.0 in let high = place.1 in h.each (k - 1) d (omega (arith, low, high))
 
 module _ (w : List ℕ) (table : List SineLow) (uppers lowers : List ℤ) (h : AreUppers w table uppers) (h' : AreLowers w table lowers) where
   -- the difference of two numbers is the function's

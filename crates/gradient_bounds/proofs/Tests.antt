@@ -29,12 +29,11 @@ use Rattle.rational_polygon.specs.Square.{Square, IsBox}
 use Rattle.directed_fixed.specs.Ends.{Ends, Encloses}
 use Rattle.defining_functions.specs.Functions.{defining_function}
 use Rattle.defining_functions.specs.Heights.{upper_height, lower_height}
-use Rattle.gradient_bounds.specs.declared.most.Most.{Most}
 use Rattle.gradient_bounds.specs.declared.neighbourhood.Neighbourhood.{Neighbourhood}
 use Rattle.gradient_bounds.specs.declared.sine_low.SineLow.{SineLow}
 use Rattle.gradient_bounds.specs.Clear.{slack}
 use Rattle.gradient_bounds.specs.Corridor.{EachFunction, SomeFunction}
-use Rattle.gradient_bounds.specs.Decision.{AreNumbers, IsMost, needed, EachReaches, SomeFallsBelow}
+use Rattle.gradient_bounds.specs.Decision.{AreNumbers, needed, EachReaches, SomeFallsBelow}
 use Rattle.gradient_bounds.specs.Kept.{IsFilledAt, IsSmallEntry, IsNumberOf, AreUppers, AreLowers, IsPrepared}
 use Rattle.gradient_bounds.specs.Neighbourhood.{IsNeighbourhood, ball_of, IsClearIn, IsShutIn}
 use Rattle.gradient_bounds.specs.Table.{PreparedWord, IsDirOfHeight, IsTableOf, IsLowAt, number_in, bounds_in, centre_of, LowerEndReaches, UpperEndFalls}
@@ -71,18 +70,17 @@ module _ (w : List ℕ) (old new : List SineLow) (same : map (λ (e : SineLow). 
         ∙ ap (λ (e : SineLow). e.dir) any.3 ∙ any.4);
   }
 
-pub filled_again : (bits : ℕ) (w u : List ℕ) (m : Most) (p : Option (Written × Written)) (table new table' : List SineLow)
+pub filled_again : (bits : ℕ) (w u : List ℕ) (p : Option (Written × Written)) (table new table' : List SineLow)
     (us ls us' ls' us'' ls'' : List ℤ) (x y : Written)
-    → IsPrepared bits w u m p table us ls → map (λ (e : SineLow). e.dir) new ≡ map (λ (e : SineLow). e.dir) table → All (IsLowAt bits (value x) (value y)) new
+    → IsPrepared bits w u p table us ls → map (λ (e : SineLow). e.dir) new ≡ map (λ (e : SineLow). e.dir) table → All (IsLowAt bits (value x) (value y)) new
     → All IsSmallEntry new → AreUppers u new us' → AreLowers u new ls' → table' ≡ new → us'' ≡ us' → ls'' ≡ ls'
-    → IsPrepared bits w u m (Some (x, y)) table' us'' ls''
-filled_again bits w u m p table new table' us ls us' ls' us'' ls'' x y h same lows small uppers lowers table_is us_is ls_is =
-    subst (λ es. IsPrepared bits w u m (Some (x, y)) es us'' ls'') (sym table_is)
-    (subst₂ (λ a b. IsPrepared bits w u m (Some (x, y)) new a b) (sym us_is) (sym ls_is) (record {
+    → IsPrepared bits w u (Some (x, y)) table' us'' ls''
+filled_again bits w u p table new table' us ls us' ls' us'' ls'' x y h same lows small uppers lowers table_is us_is ls_is =
+    subst (λ es. IsPrepared bits w u (Some (x, y)) es us'' ls'') (sym table_is)
+    (subst₂ (λ a b. IsPrepared bits w u (Some (x, y)) new a b) (sym us_is) (sym ls_is) (record {
       word = h.word;
       stable = h.stable;
       same_word = h.same_word;
-      most = h.most;
       directions = same_table w table new same h.directions;
       small = small;
       filled = lows;
@@ -131,16 +129,18 @@ pub record IsSomeTest (bits low high : ℕ) (pi : ℤ) (u : List ℕ) (us ls : L
   pub shut : SomeFallsBelow (needed bits low pi r) u us ls → SomeFunction now.word (IsShutIn (ball_of r) (slack low))
   pub found : SomeFunction now.word (IsShutIn (ball_of r) (slack high)) → SomeFallsBelow (needed bits low pi r) u us ls
 
-module _ (bits low high : ℕ) (L H : ℤ) (scale : IsScale bits low high L H) (w u : List ℕ) (m : Most) (p : Option (Written × Written)) (table : List SineLow)
-    (us ls us' ls' : List ℤ) (h : IsPrepared bits w u m p table us ls) (us_is : us' ≡ us) (ls_is : ls' ≡ ls) where
+module _ (bits low high : ℕ) (L H : ℤ) (scale : IsScale bits low high L H) (w u : List ℕ) (p : Option (Written × Written)) (table : List SineLow)
+    (us ls us' ls' : List ℤ) (h : IsPrepared bits w u p table us ls) (us_is : us' ≡ us) (ls_is : ls' ≡ ls) where
   tested : IsTested w table us ls
   tested = record { word = h.word; stable = h.stable; directions = h.directions; uppers = h.uppers; lowers = h.lowers }
 
-  pub numbers_up : AreNumbers u us'
-  numbers_up = subst₂ AreNumbers (sym h.same_word) (sym us_is) (are_numbers w table (λ i v. upper_height v w (i + 1)) us h.uppers)
+  pub numbers_up : AreNumbers u upper_height us'
+  numbers_up = subst₂ (λ x a. AreNumbers x upper_height a) (sym h.same_word) (sym us_is)
+      (are_numbers w table upper_height us (has_shift w h.word h.stable) h.uppers)
 
-  pub numbers_low : AreNumbers u ls'
-  numbers_low = subst₂ AreNumbers (sym h.same_word) (sym ls_is) (are_numbers w table (λ i v. lower_height v w (i + 1)) ls h.lowers)
+  pub numbers_low : AreNumbers u lower_height ls'
+  numbers_low = subst₂ (λ x a. AreNumbers x lower_height a) (sym h.same_word) (sym ls_is)
+      (are_numbers w table lower_height ls (has_shift w h.word h.stable) h.lowers)
 
   -- the same lists under their names
   each_kept : (needs : FormalPoint → ℤ) → EachReaches needs u us' ls' ↔ EachReaches needs w us ls
@@ -227,8 +227,8 @@ pub record IsBound (bits : ℕ) (now : PreparedWord) (form : List ℕ → Formal
       → IfSome now.point (λ q. (v : FormalPoint) → IsShift now.word v → FromSomeOn (λ n. Encloses bits r (value_at n (form now.word v) (value q.0)
       (value q.1))))
 
-module _ (bits : ℕ) (w u : List ℕ) (m : Most) (p : Option (Written × Written)) (table : List SineLow) (us ls : List ℤ)
-    (h : IsPrepared bits w u m p table us ls)
+module _ (bits : ℕ) (w u : List ℕ) (p : Option (Written × Written)) (table : List SineLow) (us ls : List ℤ)
+    (h : IsPrepared bits w u p table us ls)
     (now : PreparedWord) (view : ◌≡◌ {A = PreparedWord} (record { word = w; point = p; table = table }) now) where
   bound_of : (form : List ℕ → FormalPoint → FormalPoint) (c z : ℤ) → ((v : FormalPoint) → IsShift w v → IsListed table (form w v)) → unsigned_abs c ≤ 2 ^ 80
       → ((v : FormalPoint) → IsShift w v → c ≡ number_in table (form w v)) → ((v : FormalPoint) → IsShift u v → z ≡ pos (weight (form u v))) → z ≤ℤ pos 16384
@@ -316,16 +316,15 @@ module _ (bits : ℕ) (w u : List ℕ) (m : Most) (p : Option (Written × Writte
 
 -- ---- a new one
 
-pub prepared_from : (bits : ℕ) (w v u f : List ℕ) (m : Most) (table : List SineLow) (us ls us' ls' : List ℤ) → v ≡ w → u ≡ w → f ≡ u → IsWord u → IsStable w
-    → IsMost f m → IsTableOf f table → All IsSmallEntry table → AreUppers f table us' → AreLowers f table ls' → us ≡ us' → ls ≡ ls'
-    → IsPrepared bits v f m None table us ls
-prepared_from bits w v u f m table us ls us' ls' v_is u_is f_is word stable most directions small uppers lowers us_is ls_is =
+pub prepared_from : (bits : ℕ) (w v u f : List ℕ) (table : List SineLow) (us ls us' ls' : List ℤ) → v ≡ w → u ≡ w → f ≡ u → IsWord u → IsStable w
+    → IsTableOf f table → All IsSmallEntry table → AreUppers f table us' → AreLowers f table ls' → us ≡ us' → ls ≡ ls'
+    → IsPrepared bits v f None table us ls
+prepared_from bits w v u f table us ls us' ls' v_is u_is f_is word stable directions small uppers lowers us_is ls_is =
     let same : f ≡ v = f_is ∙ u_is ∙ sym v_is in
     record {
       word = subst IsWord (u_is ∙ sym v_is) word;
       stable = subst IsStable (sym v_is) stable;
       same_word = same;
-      most = subst (λ x. IsMost x m) same most;
       directions = subst (λ x. IsTableOf x table) same directions;
       small = small;
       filled = tt;

@@ -10,7 +10,6 @@ use Rattle.exp_sums.specs.Limits.{weight}
 use Rattle.exp_sums.specs.Reach.{reach}
 use Rattle.unfolding.specs.Shift.{IsShift}
 use Rattle.defining_functions.specs.Functions.{defining_function}
-use Rattle.gradient_bounds.specs.declared.most.Most.{Most}
 use Rattle.gradient_bounds.specs.declared.neighbourhood.Neighbourhood.{Neighbourhood}
 
 -- ---- what a function needs
@@ -42,10 +41,16 @@ needed bits low pi r f = needed_units bits low pi r (weight f) (reach f)
 
 -- ---- pairs of corners
 
--- a number for each of the word's corners on one side
-pub record AreNumbers (w : List ℕ) (numbers : List ℤ) : Type 0 where
+-- a number for each of the word's corners on one side, one for each height
+pub record AreNumbers (w : List ℕ) (height : FormalPoint → List ℕ → ℕ → FormalPoint) (numbers : List ℤ) : Type 0 where
   pub count : length numbers ≡ length w
-  pub small : All (λ z. unsigned_abs z ≤ 2 ^ 100) numbers
+  pub small : All (λ z. unsigned_abs z ≤ 2 ^ 76) numbers
+  pub same : (i j : ℕ) → IsPlace w i → IsPlace w j → ((v : FormalPoint) → IsShift w v → height v w i ≡ height v w j)
+      → slice_index_or numbers (i - 1) (pos 0) ≡ slice_index_or numbers (j - 1) (pos 0)
+
+-- the l-th number is the greatest
+abbrev pub IsGreatest : List ℕ → List ℤ → ℕ → Type 0
+IsGreatest w numbers l = (j : ℕ) → IsPlace w j → slice_index_or numbers (j - 1) (pos 0) ≤ℤ slice_index_or numbers (l - 1) (pos 0)
 
 -- the number of the k-th upper corner less that of the l-th lower one, counted from 1
 abbrev pub difference : List ℤ → List ℤ → ℕ → ℕ → ℤ
@@ -74,22 +79,3 @@ pub record SomeFallsBelow (needs : FormalPoint → ℤ) (w : List ℕ) (uppers l
   pub upper : ℕ
   pub is_upper : IsPlace w upper
   pub row : SomeInRowFalls needs w uppers lowers upper
-
--- ---- the largest functions
-
--- weight and reach of the function of two corners are at most these
-pub record IsWithinMost (w : List ℕ) (most : Most) (k l : ℕ) : Type 0 where
-  pub weight_at_most : (v : FormalPoint) → IsShift w v → pos (weight (defining_function v w k l)) ≤ℤ most.weight
-  pub reach_at_most : (v : FormalPoint) → IsShift w v → pos (reach (defining_function v w k l)) ≤ℤ most.reach
-
--- from 0 to what they may be at most
-pub record IsInLimits (most : Most) : Type 0 where
-  pub weight_at_least : pos 0 ≤ℤ most.weight
-  pub weight_at_most : most.weight ≤ℤ pos 16384
-  pub reach_at_least : pos 0 ≤ℤ most.reach
-  pub reach_at_most : most.reach ≤ℤ pos 4259840
-
--- this holds of each function of the word
-pub record IsMost (w : List ℕ) (most : Most) : Type 0 where
-  pub limits : IsInLimits most
-  pub each : (k l : ℕ) → IsPlace w k → IsPlace w l → IsWithinMost w most k l

@@ -1,20 +1,23 @@
 //! The decision of the tests by the numbers of heights.
 //!
-//! The least upper number and the greatest lower one are nearest to each other. Where their difference reaches what the
-//! largest function of the word would need, each difference reaches what its own function needs. Where it misses what its
-//! own function needs, not each does. Only in between a test goes over all pairs.
+//! The least upper number and the greatest lower one are nearest to each other. Where their difference misses what their own
+//! function needs, not each difference reaches what its function needs. Where it reaches what the greatest sizes would
+//! need, each does. In between a test goes over the upper corners: a row passes where its difference from the greatest
+//! lower number reaches what the greatest sizes of the row would need, and only else it is gone through pair by pair.
+//! Corners at which several edges end are looked at once.
 ghost use Rattle.std.specs.Prelude.{◌≡◌, ◌↔◌, ℕ, ◌^◌, ◌≤◌, ◌≤ℤ◌, length, unsigned_abs, IsTrue};
 ghost use Rattle.std.specs.List.{All};
 ghost use Rattle.edge_words.specs.Letters.{IsPlace};
 ghost use Rattle.unfolding.specs.Shift.{HasShift};
-ghost use Rattle.gradient_bounds.specs.Decision.{AreNumbers, difference, Reaches, FallsBelow, EachReaches, SomeInRowFalls, SomeFallsBelow, IsInLimits, IsMost};
-ghost use Rattle.gradient_bounds.specs.Decision.{needed, needed_units};
+ghost use Rattle.defining_functions.specs.Heights.{upper_height, lower_height};
+ghost use Rattle.gradient_bounds.specs.Decision.{AreNumbers, difference, Reaches, FallsBelow, EachReaches, SomeInRowFalls, SomeFallsBelow, IsGreatest};
+ghost use Rattle.gradient_bounds.specs.Decision.{needed};
 ghost use Rattle.gradient_bounds.specs.Neighbourhood.{IsNeighbourhood};
 
 use crate::extremes::{greatest, least};
-use crate::most::Most;
+use crate::most::{most_in_row, most_of};
 use crate::neighbourhood::Neighbourhood;
-use crate::thresholds::needed;
+use crate::thresholds::reaches_needed;
 use defining_functions::Functions;
 use directed_fixed::Scale;
 
@@ -23,24 +26,22 @@ pub fn each_reaches<S: Scale>(
     functions: &Functions,
     uppers: &[i128],
     lowers: &[i128],
-    most: &Most,
     neighbourhood: &Neighbourhood,
 ) -> bool
-    requires uppers { AreNumbers functions.now uppers.now }
-    requires lowers { AreNumbers functions.now lowers.now }
-    requires most { IsMost functions.now most.now }
+    requires uppers { AreNumbers functions.now upper_height uppers.now }
+    requires lowers { AreNumbers functions.now lower_height lowers.now }
     requires neighbourhood { IsNeighbourhood neighbourhood.now }
     ensures { IsTrue result ↔ EachReaches (needed S.BITS S.LOW_BITS S.PI_HI neighbourhood.now) functions.now uppers.now lowers.now }
 {
     let (k, l) = nearest(functions, uppers, lowers);
     let least = difference(uppers, lowers, k, l);
-    if suffices::<S>(most, least, neighbourhood) {
-        return true;
-    }
     if !reaches::<S>(functions, k, l, least, neighbourhood) {
         return false;
     }
-    all_reach::<S>(functions, uppers, lowers, neighbourhood)
+    if suffices::<S>(functions, least, neighbourhood) {
+        return true;
+    }
+    all_reach::<S>(functions, uppers, lowers, l, neighbourhood)
 }
 
 /// Whether one difference lies as far below 0.
@@ -50,8 +51,8 @@ pub fn some_falls_below<S: Scale>(
     lowers: &[i128],
     neighbourhood: &Neighbourhood,
 ) -> bool
-    requires uppers { AreNumbers functions.now uppers.now }
-    requires lowers { AreNumbers functions.now lowers.now }
+    requires uppers { AreNumbers functions.now upper_height uppers.now }
+    requires lowers { AreNumbers functions.now lower_height lowers.now }
     requires neighbourhood { IsNeighbourhood neighbourhood.now }
     ensures { IsTrue result ↔ SomeFallsBelow (needed S.BITS S.LOW_BITS S.PI_HI neighbourhood.now) functions.now uppers.now lowers.now }
 {
@@ -61,41 +62,65 @@ pub fn some_falls_below<S: Scale>(
         return false;
     }
     falls_below::<S>(functions, k, l, least, neighbourhood)
-        || one_falls::<S>(functions, uppers, lowers, neighbourhood)
+        || one_falls::<S>(functions, uppers, lowers, l, neighbourhood)
 }
 
-/// The upper and the lower corner whose numbers have the least difference.
+/// The upper corner with the least number and the lower one with the greatest. Their numbers have the least difference.
 fn nearest(functions: &Functions, uppers: &[i128], lowers: &[i128]) -> (u32, u32)
-    requires uppers { AreNumbers functions.now uppers.now }
-    requires lowers { AreNumbers functions.now lowers.now }
+    requires uppers { AreNumbers functions.now upper_height uppers.now }
+    requires lowers { AreNumbers functions.now lower_height lowers.now }
     ensures shift { HasShift functions.now }
     ensures upper { IsPlace functions.now result.0 }
     ensures lower { IsPlace functions.now result.1 }
+    ensures greatest { IsGreatest functions.now lowers.now result.1 }
     ensures least { (i j : ℕ) → IsPlace functions.now i → IsPlace functions.now j → difference uppers.now lowers.now result.0 result.1 ≤ℤ difference uppers.now lowers.now i j }
 {
     let letters = functions.letters();
     prove!(letters > 0);
-    (least(uppers) as u32 + 1, greatest(lowers) as u32 + 1)
+    (
+        least(uppers, functions.upper_edges()),
+        greatest(lowers, functions.lower_edges()),
+    )
 }
 
 /// The number of the k-th upper corner less that of the l-th lower one.
 fn difference(uppers: &[i128], lowers: &[i128], k: u32, l: u32) -> i128
     requires upper { (1 ≤ k) × (k ≤ length uppers.now) }
     requires lower { (1 ≤ l) × (l ≤ length lowers.now) }
-    requires uppers { All (λ z. unsigned_abs z ≤ 2 ^ 100) uppers.now }
-    requires lowers { All (λ z. unsigned_abs z ≤ 2 ^ 100) lowers.now }
-    ensures { result ≡ difference uppers.now lowers.now k l }
+    requires uppers { All (λ z. unsigned_abs z ≤ 2 ^ 76) uppers.now }
+    requires lowers { All (λ z. unsigned_abs z ≤ 2 ^ 76) lowers.now }
+    ensures is { result ≡ difference uppers.now lowers.now k l }
+    ensures size { unsigned_abs result ≤ 2 ^ 77 }
 {
     uppers[k as usize - 1] - lowers[l as usize - 1]
 }
 
-/// Whether a difference reaches what the largest function would need.
-fn suffices<S: Scale>(most: &Most, difference: i128, neighbourhood: &Neighbourhood) -> bool
-    requires most { IsInLimits most.now }
+/// Whether a difference is seen to reach what each function needs, since it reaches what the greatest sizes would need.
+fn suffices<S: Scale>(
+    functions: &Functions,
+    difference: i128,
+    neighbourhood: &Neighbourhood,
+) -> bool
+    requires size { unsigned_abs difference ≤ 2 ^ 77 }
     requires neighbourhood { IsNeighbourhood neighbourhood.now }
-    ensures { IsTrue result ↔ (needed_units S.BITS S.LOW_BITS S.PI_HI neighbourhood.now (unsigned_abs most.now.weight) (unsigned_abs most.now.reach) ≤ℤ difference) }
+    ensures { IsTrue result → (k l : ℕ) → IsPlace functions.now k → IsPlace functions.now l → Reaches (needed S.BITS S.LOW_BITS S.PI_HI neighbourhood.now) functions.now k l difference }
 {
-    needed::<S>(most.weight, most.reach, neighbourhood) <= difference
+    reaches_needed::<S>(difference, &most_of(functions), neighbourhood)
+}
+
+/// Whether it is seen to reach what each function of the k-th upper corner needs.
+fn suffices_in_row<S: Scale>(
+    functions: &Functions,
+    k: u32,
+    difference: i128,
+    neighbourhood: &Neighbourhood,
+) -> bool
+    requires place { IsPlace functions.now k }
+    requires size { unsigned_abs difference ≤ 2 ^ 77 }
+    requires neighbourhood { IsNeighbourhood neighbourhood.now }
+    ensures { IsTrue result → (l : ℕ) → IsPlace functions.now l → Reaches (needed S.BITS S.LOW_BITS S.PI_HI neighbourhood.now) functions.now k l difference }
+{
+    reaches_needed::<S>(difference, &most_in_row(functions, k), neighbourhood)
 }
 
 /// Whether a difference reaches what the function of the k-th upper and the l-th lower corner needs.
@@ -108,10 +133,11 @@ fn reaches<S: Scale>(
 ) -> bool
     requires upper { IsPlace functions.now k }
     requires lower { IsPlace functions.now l }
+    requires size { unsigned_abs difference ≤ 2 ^ 77 }
     requires neighbourhood { IsNeighbourhood neighbourhood.now }
     ensures { IsTrue result ↔ Reaches (needed S.BITS S.LOW_BITS S.PI_HI neighbourhood.now) functions.now k l difference }
 {
-    needed::<S>(functions.weight(k, l), functions.reach(k, l), neighbourhood) <= difference
+    reaches_needed::<S>(difference, &functions.sizes(k, l), neighbourhood)
 }
 
 /// Whether it lies as far below 0.
@@ -124,14 +150,15 @@ fn falls_below<S: Scale>(
 ) -> bool
     requires upper { IsPlace functions.now k }
     requires lower { IsPlace functions.now l }
+    requires size { unsigned_abs difference ≤ 2 ^ 77 }
     requires neighbourhood { IsNeighbourhood neighbourhood.now }
     ensures { IsTrue result ↔ FallsBelow (needed S.BITS S.LOW_BITS S.PI_HI neighbourhood.now) functions.now k l difference }
 {
-    difference <= -needed::<S>(functions.weight(k, l), functions.reach(k, l), neighbourhood)
+    reaches_needed::<S>(-difference, &functions.sizes(k, l), neighbourhood)
 }
 
 /// Whether each difference of the k-th upper number reaches what its function needs.
-fn row_reaches<S: Scale>(
+fn each_in_row_reaches<S: Scale>(
     functions: &Functions,
     uppers: &[i128],
     lowers: &[i128],
@@ -139,18 +166,44 @@ fn row_reaches<S: Scale>(
     neighbourhood: &Neighbourhood,
 ) -> bool
     requires place { IsPlace functions.now k }
-    requires uppers { AreNumbers functions.now uppers.now }
-    requires lowers { AreNumbers functions.now lowers.now }
+    requires uppers { AreNumbers functions.now upper_height uppers.now }
+    requires lowers { AreNumbers functions.now lower_height lowers.now }
     requires neighbourhood { IsNeighbourhood neighbourhood.now }
     ensures { IsTrue result ↔ ((l : ℕ) → IsPlace functions.now l → Reaches (needed S.BITS S.LOW_BITS S.PI_HI neighbourhood.now) functions.now k l (difference uppers.now lowers.now k l)) }
 {
-    for j in 0..functions.letters() {
-        let gap = difference(uppers, lowers, k, j + 1);
-        if !reaches::<S>(functions, k, j + 1, gap, neighbourhood) {
+    let edges = functions.lower_edges();
+    for &l in edges {
+        let gap = difference(uppers, lowers, k, l);
+        if !reaches::<S>(functions, k, l, gap, neighbourhood) {
             return false;
         }
     }
     true
+}
+
+/// The same, where `nearest` is the lower corner with the greatest number. The row passes where its least difference reaches
+/// what the greatest sizes of the row would need.
+fn row_reaches<S: Scale>(
+    functions: &Functions,
+    uppers: &[i128],
+    lowers: &[i128],
+    k: u32,
+    nearest: u32,
+    neighbourhood: &Neighbourhood,
+) -> bool
+    requires place { IsPlace functions.now k }
+    requires nearest { IsPlace functions.now nearest }
+    requires greatest { IsGreatest functions.now lowers.now nearest }
+    requires uppers { AreNumbers functions.now upper_height uppers.now }
+    requires lowers { AreNumbers functions.now lower_height lowers.now }
+    requires neighbourhood { IsNeighbourhood neighbourhood.now }
+    ensures { IsTrue result ↔ ((l : ℕ) → IsPlace functions.now l → Reaches (needed S.BITS S.LOW_BITS S.PI_HI neighbourhood.now) functions.now k l (difference uppers.now lowers.now k l)) }
+{
+    let least = difference(uppers, lowers, k, nearest);
+    if suffices_in_row::<S>(functions, k, least, neighbourhood) {
+        return true;
+    }
+    each_in_row_reaches::<S>(functions, uppers, lowers, k, neighbourhood)
 }
 
 /// Whether this is so for each upper number.
@@ -158,15 +211,19 @@ fn all_reach<S: Scale>(
     functions: &Functions,
     uppers: &[i128],
     lowers: &[i128],
+    nearest: u32,
     neighbourhood: &Neighbourhood,
 ) -> bool
-    requires uppers { AreNumbers functions.now uppers.now }
-    requires lowers { AreNumbers functions.now lowers.now }
+    requires nearest { IsPlace functions.now nearest }
+    requires greatest { IsGreatest functions.now lowers.now nearest }
+    requires uppers { AreNumbers functions.now upper_height uppers.now }
+    requires lowers { AreNumbers functions.now lower_height lowers.now }
     requires neighbourhood { IsNeighbourhood neighbourhood.now }
     ensures { IsTrue result ↔ EachReaches (needed S.BITS S.LOW_BITS S.PI_HI neighbourhood.now) functions.now uppers.now lowers.now }
 {
-    for i in 0..functions.letters() {
-        if !row_reaches::<S>(functions, uppers, lowers, i + 1, neighbourhood) {
+    let edges = functions.upper_edges();
+    for &k in edges {
+        if !row_reaches::<S>(functions, uppers, lowers, k, nearest, neighbourhood) {
             return false;
         }
     }
@@ -174,7 +231,7 @@ fn all_reach<S: Scale>(
 }
 
 /// Whether one difference of the k-th upper number lies as far below 0 as its function needs.
-fn row_falls<S: Scale>(
+fn one_in_row_falls<S: Scale>(
     functions: &Functions,
     uppers: &[i128],
     lowers: &[i128],
@@ -182,18 +239,45 @@ fn row_falls<S: Scale>(
     neighbourhood: &Neighbourhood,
 ) -> bool
     requires place { IsPlace functions.now k }
-    requires uppers { AreNumbers functions.now uppers.now }
-    requires lowers { AreNumbers functions.now lowers.now }
+    requires uppers { AreNumbers functions.now upper_height uppers.now }
+    requires lowers { AreNumbers functions.now lower_height lowers.now }
     requires neighbourhood { IsNeighbourhood neighbourhood.now }
     ensures { IsTrue result ↔ SomeInRowFalls (needed S.BITS S.LOW_BITS S.PI_HI neighbourhood.now) functions.now uppers.now lowers.now k }
 {
-    for j in 0..functions.letters() {
-        let gap = difference(uppers, lowers, k, j + 1);
-        if gap < 0 && falls_below::<S>(functions, k, j + 1, gap, neighbourhood) {
+    let edges = functions.lower_edges();
+    for &l in edges {
+        let gap = difference(uppers, lowers, k, l);
+        if gap < 0 && falls_below::<S>(functions, k, l, gap, neighbourhood) {
             return true;
         }
     }
     false
+}
+
+/// The same, where `nearest` is the lower corner with the greatest number. No difference of the row is below 0 where the least
+/// one is not.
+fn row_falls<S: Scale>(
+    functions: &Functions,
+    uppers: &[i128],
+    lowers: &[i128],
+    k: u32,
+    nearest: u32,
+    neighbourhood: &Neighbourhood,
+) -> bool
+    requires shift { HasShift functions.now }
+    requires place { IsPlace functions.now k }
+    requires nearest { IsPlace functions.now nearest }
+    requires greatest { IsGreatest functions.now lowers.now nearest }
+    requires uppers { AreNumbers functions.now upper_height uppers.now }
+    requires lowers { AreNumbers functions.now lower_height lowers.now }
+    requires neighbourhood { IsNeighbourhood neighbourhood.now }
+    ensures { IsTrue result ↔ SomeInRowFalls (needed S.BITS S.LOW_BITS S.PI_HI neighbourhood.now) functions.now uppers.now lowers.now k }
+{
+    let least = difference(uppers, lowers, k, nearest);
+    if least >= 0 {
+        return false;
+    }
+    one_in_row_falls::<S>(functions, uppers, lowers, k, neighbourhood)
 }
 
 /// Whether this is so for one upper number.
@@ -201,15 +285,19 @@ fn one_falls<S: Scale>(
     functions: &Functions,
     uppers: &[i128],
     lowers: &[i128],
+    nearest: u32,
     neighbourhood: &Neighbourhood,
 ) -> bool
-    requires uppers { AreNumbers functions.now uppers.now }
-    requires lowers { AreNumbers functions.now lowers.now }
+    requires nearest { IsPlace functions.now nearest }
+    requires greatest { IsGreatest functions.now lowers.now nearest }
+    requires uppers { AreNumbers functions.now upper_height uppers.now }
+    requires lowers { AreNumbers functions.now lower_height lowers.now }
     requires neighbourhood { IsNeighbourhood neighbourhood.now }
     ensures { IsTrue result ↔ SomeFallsBelow (needed S.BITS S.LOW_BITS S.PI_HI neighbourhood.now) functions.now uppers.now lowers.now }
 {
-    for i in 0..functions.letters() {
-        if row_falls::<S>(functions, uppers, lowers, i + 1, neighbourhood) {
+    let edges = functions.upper_edges();
+    for &k in edges {
+        if row_falls::<S>(functions, uppers, lowers, k, nearest, neighbourhood) {
             return true;
         }
     }

@@ -1,56 +1,42 @@
-//! The largest functions of a word.
-ghost use Rattle.std.specs.Prelude.{◌≡◌, ℕ, ◌≤◌, ◌<◌};
-ghost use Rattle.std.specs.Int.{int_max};
+//! Sizes that no function of a word exceeds.
+ghost use Rattle.std.specs.Prelude.{ℕ};
 ghost use Rattle.edge_words.specs.Letters.{IsPlace};
-ghost use Rattle.gradient_bounds.specs.Decision.{IsInLimits, IsWithinMost, IsMost};
+ghost use Rattle.exp_sums.specs.FormalPoint.{FormalPoint};
+ghost use Rattle.unfolding.specs.Shift.{IsShift};
+ghost use Rattle.defining_functions.specs.Functions.{defining_function};
+ghost use Rattle.defining_functions.specs.Sizes.{sizes_of, AreAtMost, AreSmall};
 
 use defining_functions::Functions;
+use exp_sums::Sizes;
 
-/// What the weights and the reaches of functions are at most.
-#[derive(Clone, Copy, Debug)]
-pub struct Most {
-    pub weight: i64,
-    pub reach: i64,
-}
+/// What the functions of each word are at most.
+const LARGEST: Sizes = Sizes {
+    weight: 16384,
+    reach: 4_259_840,
+    bend: 553_779_200,
+};
 
-impl Most {
-    /// The greater ones of these and others.
-    fn or(self, weight: i64, reach: i64) -> Most
-        ensures weight { result.weight ≡ int_max self.weight weight }
-        ensures reach { result.reach ≡ int_max self.reach reach }
-    {
-        Most {
-            weight: self.weight.max(weight),
-            reach: self.reach.max(reach),
-        }
-    }
-}
-
-/// Takes in the functions of the k-th upper corner.
-fn with_row(so_far: Most, functions: &Functions, k: u32) -> Most
-    requires place { IsPlace functions.now k }
-    requires limits { IsInLimits so_far }
-    requires rows { (i j : ℕ) → 1 ≤ i → i < k → IsPlace functions.now j → IsWithinMost functions.now so_far i j }
-    ensures limits { IsInLimits result }
-    ensures rows { (i j : ℕ) → 1 ≤ i → i ≤ k → IsPlace functions.now j → IsWithinMost functions.now result i j }
+/// Sizes that are at least those of each function: the greatest ones, where the sizes are kept.
+pub fn most_of(functions: &Functions) -> Sizes
+    ensures small { AreSmall result }
+    ensures most { (v : FormalPoint) (k l : ℕ) → IsShift functions.now v → IsPlace functions.now k → IsPlace functions.now l
+        → AreAtMost (sizes_of (defining_function v functions.now k l)) result }
 {
-    let mut most = so_far;
-    for j in 0..functions.letters() {
-        most = most.or(functions.weight(k, j + 1), functions.reach(k, j + 1));
+    match functions.greatest_sizes() {
+        Some(greatest) => greatest,
+        None => LARGEST,
     }
-    most
 }
 
-/// The greatest weight and the greatest reach of the functions of a word.
-pub fn most_of(functions: &Functions) -> Most
-    ensures { IsMost functions.now result }
+/// Sizes that are at least those of each function of the k-th upper corner: the greatest ones, where the sizes are kept.
+pub fn most_in_row(functions: &Functions, k: u32) -> Sizes
+    requires { IsPlace functions.now k }
+    ensures small { AreSmall result }
+    ensures most { (v : FormalPoint) (l : ℕ) → IsShift functions.now v → IsPlace functions.now l
+        → AreAtMost (sizes_of (defining_function v functions.now k l)) result }
 {
-    let mut most = Most {
-        weight: 0,
-        reach: 0,
-    };
-    for i in 0..functions.letters() {
-        most = with_row(most, functions, i + 1);
+    match functions.greatest_in_row(k) {
+        Some(greatest) => greatest,
+        None => LARGEST,
     }
-    most
 }

@@ -25,7 +25,6 @@ use crate::directions::blank_table;
 use crate::fault::PrepareFault;
 use crate::filled::is_at;
 use crate::height_numbers::{number_lowers, number_uppers, zeros};
-use crate::most::{Most, most_of};
 use crate::neighbourhood::{point, square};
 use crate::places::Places;
 use crate::sine_low::SineLow;
@@ -36,19 +35,17 @@ use edge_words::Word;
 use rat_core::Frac;
 use rational_polygon::GridBox;
 use sine_fixed::over_one_denominator;
-use std::alloc::Global;
+use std::alloc::{AllocError as OutOfMemory, Global};
 use std::marker::{Model, PhantomData};
 use unfolding::Unfolding;
 
 /// A stable word with its functions and a table of sines, for tests at the scale `S`.
 ///
-/// Only `new` takes memory.
+/// Only `new` and `keep_sizes` take memory.
 #[derive(Drop)]
 pub struct Prepared<S: Scale> {
     word: Word,
     functions: Functions,
-    /// The largest of the functions.
-    most: Most,
     /// Where the table was filled last.
     point: Option<(Frac, Frac)>,
     table: Vec<SineLow>,
@@ -73,7 +70,7 @@ impl<S: Scale> Model for Prepared<S> {
 
     ghost view = { λ p. record { word = p.word; point = p.point; table = p.table.items } };
 
-    ghost invariant = { λ p. IsPrepared S.BITS p.word p.functions p.most p.point p.table.items p.uppers.items p.lowers.items };
+    ghost invariant = { λ p. IsPrepared S.BITS p.word p.functions p.point p.table.items p.uppers.items p.lowers.items };
 }
 
 impl<S: Scale> Prepared<S> {
@@ -99,7 +96,6 @@ impl<S: Scale> Prepared<S> {
         number_lowers(&mut lowers, &functions, &lower_places, &table);
         Ok(Prepared {
             word: word.copied(),
-            most: most_of(&functions),
             functions,
             point: None,
             table,
@@ -110,6 +106,14 @@ impl<S: Scale> Prepared<S> {
             sines: 0,
             scale: PhantomData,
         })
+    }
+
+    /// Makes the sizes of all functions and keeps them. Nothing else changes, but tests look the sizes up from then on: for a
+    /// word that is tested on many boxes.
+    pub fn keep_sizes(&mut self, alloc: Global) -> Result<(), OutOfMemory>
+        ensures { self.new ≡ self.old }
+    {
+        self.functions.keep_sizes(alloc)
     }
 
     /// The word.
@@ -245,13 +249,7 @@ impl<S: Scale> Prepared<S> {
         ensures corridor { IsTrue result → HasCorridor self.old.word (value x) (value y) }
     {
         self.move_to(x, y);
-        each_reaches::<S>(
-            &self.functions,
-            &self.uppers,
-            &self.lowers,
-            &self.most,
-            &point(x, y),
-        )
+        each_reaches::<S>(&self.functions, &self.uppers, &self.lowers, &point(x, y))
     }
 
     /// Whether the word is seen to have a corridor at every point of the box, by the table at its centre alone.
@@ -270,13 +268,7 @@ impl<S: Scale> Prepared<S> {
         ensures corridor { IsTrue result → (p : Point) → IsInBox place p → HasCorridor self.old.word p.x p.y }
     {
         self.move_to_centre(place);
-        each_reaches::<S>(
-            &self.functions,
-            &self.uppers,
-            &self.lowers,
-            &self.most,
-            &square(place),
-        )
+        each_reaches::<S>(&self.functions, &self.uppers, &self.lowers, &square(place))
     }
 
     /// Whether the word is seen to have a corridor at no point of the box: one function is as far below 0 at the centre

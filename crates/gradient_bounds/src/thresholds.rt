@@ -1,10 +1,12 @@
 //! What the difference of two heights' numbers has to reach at the centre of a neighbourhood, in units.
-ghost use Rattle.std.specs.Prelude.{◌≡◌, ◌-◌, ◌^◌, ◌≤◌, ◌≤ℤ◌, pos, unsigned_abs};
-ghost use Rattle.gradient_bounds.specs.Decision.{drift_units, margin_units, threshold_units, needed_units};
+ghost use Rattle.std.specs.Prelude.{◌≡◌, ◌↔◌, ◌-◌, ◌*◌, ◌^◌, ◌≤◌, pos, ◌+ℤ◌, ◌*ℤ◌, ◌≤ℤ◌, unsigned_abs, IsTrue};
+ghost use Rattle.defining_functions.specs.Sizes.{AreSmall};
+ghost use Rattle.gradient_bounds.specs.Decision.{margin_units, needed_units};
 ghost use Rattle.gradient_bounds.specs.Neighbourhood.{IsNeighbourhood};
 
 use crate::neighbourhood::Neighbourhood;
-use directed_fixed::{Direction, Scale, Up};
+use directed_fixed::Scale;
+use exp_sums::Sizes;
 
 /// The narrower slack, in units.
 fn slack_units<S: Scale>() -> i128
@@ -14,53 +16,46 @@ fn slack_units<S: Scale>() -> i128
 }
 
 /// The margin at a weight with the narrower slack, in units.
-fn margin<S: Scale>(weight: i64) -> i128
-    requires at_least { pos 0 ≤ℤ weight }
-    requires at_most { weight ≤ℤ pos 16384 }
-    ensures { result ≡ margin_units S.BITS S.LOW_BITS (unsigned_abs weight) }
+fn margin<S: Scale>(weight: u64) -> i128
+    requires { weight ≤ 32768 }
+    ensures is { result ≡ margin_units S.BITS S.LOW_BITS weight }
+    ensures size { unsigned_abs result ≤ 2 ^ 76 }
 {
     slack_units::<S>() * (1 + i128::from(weight))
 }
 
-/// How far the value of a function with this reach may change from the centre to another point of the neighbourhood, in
-/// units: pi times the reach times the radius, rounded up.
-fn drift<S: Scale>(reach: i64, neighbourhood: &Neighbourhood) -> i128
-    requires at_least { pos 0 ≤ℤ reach }
-    requires at_most { reach ≤ℤ pos 4259840 }
-    requires neighbourhood { IsNeighbourhood neighbourhood.now }
-    ensures { result ≡ drift_units S.PI_HI neighbourhood.now (unsigned_abs reach) }
+/// The margin, and 256 units for each unit of the weight: by so much the difference of two numbers may lie above the value
+/// of the function.
+fn allowance<S: Scale>(weight: u64) -> i128
+    requires { weight ≤ 32768 }
+    ensures is { result ≡ pos (256 * weight) +ℤ margin_units S.BITS S.LOW_BITS weight }
+    ensures size { unsigned_abs result ≤ 2 ^ 77 }
 {
-    Up::div(
-        S::PI_HI * (i128::from(reach) * neighbourhood.radius),
-        neighbourhood.centre.den,
-    )
+    256 * i128::from(weight) + margin::<S>(weight)
 }
 
-/// The drift and the margin together.
-pub fn threshold<S: Scale>(weight: i64, reach: i64, neighbourhood: &Neighbourhood) -> i128
-    requires weight_at_least { pos 0 ≤ℤ weight }
-    requires weight_at_most { weight ≤ℤ pos 16384 }
-    requires reach_at_least { pos 0 ≤ℤ reach }
-    requires reach_at_most { reach ≤ℤ pos 4259840 }
+/// The drift of a function with this reach, times the centre's denominator: pi times the reach times the radius. So far may
+/// the value of the function change from the centre to another point of the neighbourhood.
+fn drift_product<S: Scale>(reach: u64, neighbourhood: &Neighbourhood) -> i128
+    requires reach { reach ≤ 8519680 }
     requires neighbourhood { IsNeighbourhood neighbourhood.now }
-    ensures is { result ≡ threshold_units S.BITS S.LOW_BITS S.PI_HI neighbourhood.now (unsigned_abs weight) (unsigned_abs reach) }
-    ensures at_least { pos 1 ≤ℤ result }
-    ensures size { unsigned_abs result ≤ 2 ^ 100 }
+    ensures { result ≡ S.PI_HI *ℤ (pos reach *ℤ neighbourhood.now.radius) }
 {
-    drift::<S>(reach, neighbourhood) + margin::<S>(weight)
+    S::PI_HI * (i128::from(reach) * neighbourhood.radius)
 }
 
-/// These and 256 units for each unit of the weight: by so much the difference of two numbers may lie above the value of
-/// the function.
-pub fn needed<S: Scale>(weight: i64, reach: i64, neighbourhood: &Neighbourhood) -> i128
-    requires weight_at_least { pos 0 ≤ℤ weight }
-    requires weight_at_most { weight ≤ℤ pos 16384 }
-    requires reach_at_least { pos 0 ≤ℤ reach }
-    requires reach_at_most { reach ≤ℤ pos 4259840 }
+/// Whether a difference reaches what a function of this weight and this reach needs: its drift, rounded up, its margin and
+/// the errors of the sines. Both sides are taken times the centre's denominator, so nothing is divided.
+pub fn reaches_needed<S: Scale>(
+    difference: i128,
+    sizes: &Sizes,
+    neighbourhood: &Neighbourhood,
+) -> bool
+    requires difference { unsigned_abs difference ≤ 2 ^ 77 }
+    requires sizes { AreSmall sizes.now }
     requires neighbourhood { IsNeighbourhood neighbourhood.now }
-    ensures is { result ≡ needed_units S.BITS S.LOW_BITS S.PI_HI neighbourhood.now (unsigned_abs weight) (unsigned_abs reach) }
-    ensures at_least { pos 1 ≤ℤ result }
-    ensures size { unsigned_abs result ≤ 2 ^ 101 }
+    ensures { IsTrue result ↔ (needed_units S.BITS S.LOW_BITS S.PI_HI neighbourhood.now sizes.now.weight sizes.now.reach ≤ℤ difference) }
 {
-    256 * i128::from(weight) + threshold::<S>(weight, reach, neighbourhood)
+    let rest = difference - allowance::<S>(sizes.weight);
+    drift_product::<S>(sizes.reach, neighbourhood) <= rest * neighbourhood.centre.den
 }

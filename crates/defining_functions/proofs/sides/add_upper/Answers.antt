@@ -1,4 +1,4 @@
-use Rattle.std.proofs.Common.{◌≡◌, ◌+◌, refl, sym, subst, ◌∙◌, arith}
+use Rattle.std.proofs.Common.{◌≡◌, ◌+◌, sym, subst, ◌∙◌, arith}
 use Rattle.unfolding.specs.Corners.{upper_corner}
 use Rattle.defining_functions.specs.Kept.{IsSmall, IsUpperHeight}
 use Rattle.defining_functions.proofs.Limits.{upper_small}

@@ -1,13 +1,25 @@
-use Rattle.std.proofs.Common.{refl, ℕ, ◌+◌, arith}
+use Rattle.std.proofs.Common.{◌≡◌, refl, ℕ, length, slice_index_or, below_more, arith}
 use Rattle.edge_words.specs.Letters.{IsPlace}
-use Rattle.gradient_bounds.specs.Decision.{needed, difference, Reaches}
-use Rattle.gradient_bounds.proofs.Largest.{up_to}
+use Rattle.gradient_bounds.specs.Decision.{needed, difference, Reaches, EachReaches}
+use Rattle.gradient_bounds.proofs.AllEdges.{all_reached}
+use Rattle.gradient_bounds.proofs.Deciding.{holds}
 use Rattle.gradient_bounds.proofs.decision.all_reach.Goals as goal
 
-pub loop-i-preserved : goal.loop-i-preserved
-loop-i-preserved g c =
+pub loop-k-preserved : goal.loop-k-preserved
+loop-k-preserved g c =
     let w = c.args.functions.now in
     let N = needed g.S.Scale.BITS g.S.Scale.LOW_BITS g.S.Scale.PI_HI c.args.neighbourhood.now in
-    up_to (λ a. (b : ℕ) → IsPlace w b → Reaches N w a b (difference c.args.uppers.now c.args.lowers.now a b)) (c.loop-i.i + 1)
-    (λ a low below. c.loop-i.invariant a low (omega (arith, below)))
-    (c.if-not-row_reaches.ensures.0 refl)
+    let edges = c.upper_edges-edges.result.now in
+    below_more
+    (λ i. (b : ℕ) → IsPlace w b → Reaches N w (slice_index_or edges i 0) b (difference c.args.uppers.now c.args.lowers.now (slice_index_or edges i 0) b))
+    c.loop-k.k-index c.loop-k.invariant (c.if-not-row_reaches.ensures.0 refl)
+
+pub returns : goal.returns
+returns g c =
+    let w = c.args.functions.now in
+    let N = needed g.S.Scale.BITS g.S.Scale.LOW_BITS g.S.Scale.PI_HI c.args.neighbourhood.now in
+    let edges = c.upper_edges-edges.result.now in
+    let end : c.loop-k.k-index ≡ length edges = omega (arith, c.loop-k-test.false, c.loop-k.auto.k-index-end) in
+    holds (EachReaches N w c.args.uppers.now c.args.lowers.now)
+    (all_reached N w c.args.uppers.now c.args.lowers.now c.requires.uppers c.requires.lowers edges c.upper_edges-edges.ensures.heights
+    (λ i below. c.loop-k.invariant i (omega (arith, end, below))))

@@ -1,31 +1,21 @@
-use Rattle.std.proofs.Common.{refl, ℕ, ◌+◌, subst, sym, FitsSigned, arith}
+use Rattle.std.proofs.Common.{ℕ, FitsSigned}
 use Rattle.std.specs.Int.{w128}
 use Rattle.std.proofs.lemmas.Int.{to_z-of_z}
 use Rattle.edge_words.specs.Letters.{IsPlace}
 use Rattle.gradient_bounds.specs.Decision.{needed, difference, Reaches}
-use Rattle.gradient_bounds.proofs.Largest.{up_to}
-use Rattle.gradient_bounds.proofs.Deciding.{then_not}
+use Rattle.gradient_bounds.proofs.Deciding.{holds, reaches_more, row_least}
 use Rattle.gradient_bounds.proofs.decision.row_reaches.Goals as goal
 
-pub returns-then-not-reaches : goal.returns-then-not-reaches
-returns-then-not-reaches g c =
+pub returns-then-suffices_in_row : goal.returns-then-suffices_in_row
+returns-then-suffices_in_row g c =
     let w = c.args.functions.now in
     let k = c.args.k in
+    let us = c.args.uppers.now in
+    let ls = c.args.lowers.now in
     let N = needed g.S.Scale.BITS g.S.Scale.LOW_BITS g.S.Scale.PI_HI c.args.neighbourhood.now in
-    let gap : FitsSigned w128 c.difference-gap.result = record { sfits = c.difference-gap.type_inv } in
-    let place : IsPlace w (c.loop-j.j + 1) = (omega arith, omega (arith, c.loop-j-test.true, c.letters-j-end.ensures.count)) in
-    then_not (Reaches N w k (c.loop-j.j + 1) c.difference-gap.result)
-    ((l : ℕ) → IsPlace w l → Reaches N w k l (difference c.args.uppers.now c.args.lowers.now k l))
-    (simp to_z-of_z at c.if-not-reaches.ensures)
-    (λ each. subst (Reaches N w k (c.loop-j.j + 1)) (sym c.difference-gap.ensures) (each (c.loop-j.j + 1) place))
-
-pub loop-j-preserved : goal.loop-j-preserved
-loop-j-preserved g c =
-    let w = c.args.functions.now in
-    let k = c.args.k in
-    let N = needed g.S.Scale.BITS g.S.Scale.LOW_BITS g.S.Scale.PI_HI c.args.neighbourhood.now in
-    let gap : FitsSigned w128 c.difference-gap.result = record { sfits = c.difference-gap.type_inv } in
-    let iff = simp to_z-of_z at c.if-not-reaches.ensures in
-    up_to (λ l. Reaches N w k l (difference c.args.uppers.now c.args.lowers.now k l)) (c.loop-j.j + 1)
-    (λ b low below. c.loop-j.invariant b low (omega (arith, below)))
-    (subst (Reaches N w k (c.loop-j.j + 1)) c.difference-gap.ensures (iff.0 refl))
+    let least : FitsSigned w128 c.difference-least.result = record { sfits = c.difference-least.type_inv } in
+    let passes = simp to_z-of_z at c.suffices_in_row.ensures in
+    holds ((l : ℕ) → IsPlace w l → Reaches N w k l (difference us ls k l))
+    (λ l lower. reaches_more N w k l c.difference-least.result (difference us ls k l)
+    (row_least w us ls k c.args.nearest l c.difference-least.result c.difference-least.ensures.is c.requires.greatest lower)
+    (passes c.if-suffices_in_row.true l lower))

@@ -15,7 +15,7 @@ returns-then-least-ge0 g c =
     let N = needed g.S.Scale.BITS g.S.Scale.LOW_BITS g.S.Scale.PI_HI c.args.neighbourhood.now in
     let least : FitsSigned w128 c.difference-least.result = record { sfits = c.difference-least.type_inv } in
     let below : (i j : ℕ) → IsPlace w i → IsPlace w j → c.difference-least.result ≤ℤ difference us ls i j =
-    subst (λ z. (i j : ℕ) → IsPlace w i → IsPlace w j → z ≤ℤ difference us ls i j) (sym c.difference-least.ensures) c.nearest-k.ensures.least in
+    subst (λ z. (i j : ℕ) → IsPlace w i → IsPlace w j → z ≤ℤ difference us ls i j) (sym c.difference-least.ensures.is) c.nearest-k.ensures.least in
     fails (SomeFallsBelow N w us ls)
     (none_falls g.S.Scale.BITS g.S.Scale.LOW_BITS g.S.Scale.PI_LO g.S.Scale.PI_HI c.args.neighbourhood.now w us ls c.difference-least.result
     g.S.Scale.one_unit g.S.Scale.pi_between c.requires.neighbourhood c.nearest-k.ensures.shift below
@@ -39,7 +39,7 @@ returns-then-falls_below g c =
       row = record {
         lower = l;
         is_lower = c.nearest-k.ensures.lower;
-        falls = subst (FallsBelow N w k l) c.difference-least.ensures
+        falls = subst (FallsBelow N w k l) c.difference-least.ensures.is
             (iff.0 c.if-falls_below.true);
       };
     }))

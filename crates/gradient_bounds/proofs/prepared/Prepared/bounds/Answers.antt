@@ -4,11 +4,11 @@ use Rattle.gradient_bounds.proofs.prepared.Prepared.bounds.Given as given
 use Rattle.gradient_bounds.proofs.prepared.Prepared.bounds.Goals as goal
 
 is_pair_before : (g : given.Over) (c : goal.After-weight g)
-    → IsPair g.S.Scale.BITS c.self.inside.word c.self.inside.functions c.self.inside.most c.self.inside.point c.self.inside.table.items
+    → IsPair g.S.Scale.BITS c.self.inside.word c.self.inside.functions c.self.inside.point c.self.inside.table.items
     c.self.inside.uppers.items
     c.self.inside.lowers.items c.self.invariant c.args.self.now c.self.view_is c.args.k c.args.l c.index.result.now c.index-2.result.now c.weight.result
 is_pair_before g c =
-    pair g.S.Scale.BITS c.self.inside.word c.self.inside.functions c.self.inside.most c.self.inside.point c.self.inside.table.items c.self.inside.uppers.items
+    pair g.S.Scale.BITS c.self.inside.word c.self.inside.functions c.self.inside.point c.self.inside.table.items c.self.inside.uppers.items
     c.self.inside.lowers.items c.self.invariant c.args.self.now c.self.view_is c.args.k c.args.l c.index.result.now c.index-2.result.now c.weight.result
     c.requires.upper c.requires.lower c.index.ensures c.index-2.ensures c.weight.ensures.is c.weight.ensures.limit
 
@@ -19,11 +19,11 @@ around-requires-clause-weight_least g c =
     simp to_z-of_z is.bound.least
 
 is_pair : (g : given.Over) (c : goal.After-around g)
-    → IsPair g.S.Scale.BITS c.self.inside.word c.self.inside.functions c.self.inside.most c.self.inside.point c.self.inside.table.items
+    → IsPair g.S.Scale.BITS c.self.inside.word c.self.inside.functions c.self.inside.point c.self.inside.table.items
     c.self.inside.uppers.items
     c.self.inside.lowers.items c.self.invariant c.args.self.now c.self.view_is c.args.k c.args.l c.index.result.now c.index-2.result.now c.weight.result
 is_pair g c =
-    pair g.S.Scale.BITS c.self.inside.word c.self.inside.functions c.self.inside.most c.self.inside.point c.self.inside.table.items c.self.inside.uppers.items
+    pair g.S.Scale.BITS c.self.inside.word c.self.inside.functions c.self.inside.point c.self.inside.table.items c.self.inside.uppers.items
     c.self.inside.lowers.items c.self.invariant c.args.self.now c.self.view_is c.args.k c.args.l c.index.result.now c.index-2.result.now c.weight.result
     c.requires.upper c.requires.lower c.index.ensures c.index-2.ensures c.weight.ensures.is c.weight.ensures.limit
 

@@ -71,7 +71,7 @@ invariant_of-self g c =
     omega (arith, c.number_lowers.ensures.count, ap length c.self.invariant.same_word, c.self.invariant.lowers.count, i.lowers.ok.0) in
     let us_is = take_at c.number_uppers.new.numbers (drop (length c.number_uppers.new.numbers) i.uppers.items) i.uppers.len us_len in
     let ls_is = take_at c.number_lowers.new.numbers (drop (length c.number_lowers.new.numbers) i.lowers.items) i.lowers.len ls_len in
-    filled_again g.S.Scale.BITS i.word i.functions i.most i.point i.table.items c.fill.new.table _ i.uppers.items i.lowers.items c.number_uppers.new.numbers
+    filled_again g.S.Scale.BITS i.word i.functions i.point i.table.items c.fill.new.table _ i.uppers.items i.lowers.items c.number_uppers.new.numbers
     c.number_lowers.new.numbers _ _ c.args.x c.args.y c.self.invariant same
     (subst₂ (λ x y. All (IsLowAt g.S.Scale.BITS x y) c.fill.new.table) c.over_one_denominator-at.ensures.first
     c.over_one_denominator-at.ensures.second c.fill.ensures.lows)

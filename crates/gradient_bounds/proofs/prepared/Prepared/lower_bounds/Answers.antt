@@ -7,7 +7,7 @@ use Rattle.gradient_bounds.proofs.prepared.Prepared.lower_bounds.Goals as goal
 is_bound_before : (g : given.Over) (c : goal.After-weight g) → IsBound g.S.Scale.BITS c.args.self.now
     (λ w v. lower_height v w c.args.l) c.index.result.now c.weight.result
 is_bound_before g c =
-    lower_bound g.S.Scale.BITS c.self.inside.word c.self.inside.functions c.self.inside.most c.self.inside.point c.self.inside.table.items
+    lower_bound g.S.Scale.BITS c.self.inside.word c.self.inside.functions c.self.inside.point c.self.inside.table.items
     c.self.inside.uppers.items
     c.self.inside.lowers.items c.self.invariant c.args.self.now c.self.view_is c.args.l c.index.result.now c.weight.result c.lower_height.result.now
     c.requires.place c.index.ensures c.lower_height.ensures.is c.weight.ensures c.lower_height.ensures.limits.light
@@ -21,7 +21,7 @@ around-requires-clause-weight_least g c =
 is_bound : (g : given.Over) (c : goal.After-around g) → IsBound g.S.Scale.BITS c.args.self.now
     (λ w v. lower_height v w c.args.l) c.index.result.now c.weight.result
 is_bound g c =
-    lower_bound g.S.Scale.BITS c.self.inside.word c.self.inside.functions c.self.inside.most c.self.inside.point c.self.inside.table.items
+    lower_bound g.S.Scale.BITS c.self.inside.word c.self.inside.functions c.self.inside.point c.self.inside.table.items
     c.self.inside.uppers.items
     c.self.inside.lowers.items c.self.invariant c.args.self.now c.self.view_is c.args.l c.index.result.now c.weight.result c.lower_height.result.now
     c.requires.place c.index.ensures c.lower_height.ensures.is c.weight.ensures c.lower_height.ensures.limits.light

@@ -64,9 +64,9 @@ invariant_of-result g c =
     omega (arith, c.number_uppers.ensures.count, c.in_ok-uppers.ensures, c.letters.ensures.count, uppers.ok.0) in
     let ls_len : length c.number_lowers.new.numbers ≡ lowers.len =
     omega (arith, c.number_lowers.ensures.count, c.in_ok-lowers.ensures, c.letters-2.ensures.count, lowers.ok.0) in
-    prepared_from g.S.Scale.BITS w c.copied.result c.in_ok-unfolding.unfolding f c.most_of.result c.in_ok-table.table.items _ _ c.number_uppers.new.numbers
+    prepared_from g.S.Scale.BITS w c.copied.result c.in_ok-unfolding.unfolding f c.in_ok-table.table.items _ _ c.number_uppers.new.numbers
     c.number_lowers.new.numbers c.copied.ensures c.in_ok-unfolding.ensures.word c.in_ok-functions.ensures.word
-    (subst IsWord c.unfolding.view_is c.unfolding.invariant.word) stable c.most_of.ensures c.in_ok-table.ensures.directions c.in_ok-table.ensures.small
+    (subst IsWord c.unfolding.view_is c.unfolding.invariant.word) stable c.in_ok-table.ensures.directions c.in_ok-table.ensures.small
     (subst (λ es. AreUppers f es c.number_uppers.new.numbers) c.deref-3.ensures.value c.number_uppers.ensures)
     (subst (λ es. AreLowers f es c.number_lowers.new.numbers) c.deref-4.ensures.value c.number_lowers.ensures)
     (take_at c.number_uppers.new.numbers (drop (length c.number_uppers.new.numbers) uppers.items) uppers.len us_len)

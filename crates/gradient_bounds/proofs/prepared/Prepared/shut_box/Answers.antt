@@ -18,14 +18,14 @@ scale g = record { one_unit = g.S.Scale.one_unit; pi = g.S.Scale.pi_between; apa
 pub some_falls_below-requires-clause-uppers : goal.some_falls_below-requires-clause-uppers
 some_falls_below-requires-clause-uppers g c =
     let i = c.self.inside in
-    numbers_up g.S.Scale.BITS g.S.Scale.LOW_BITS g.S.Scale.HIGH_BITS g.S.Scale.PI_LO g.S.Scale.PI_HI (scale g) i.word i.functions i.most i.point i.table.items
+    numbers_up g.S.Scale.BITS g.S.Scale.LOW_BITS g.S.Scale.HIGH_BITS g.S.Scale.PI_LO g.S.Scale.PI_HI (scale g) i.word i.functions i.point i.table.items
     i.uppers.items i.lowers.items c.deref.result.now c.deref-2.result.now c.self.invariant c.deref.ensures.value c.deref-2.ensures.value
 
 pub some_falls_below-requires-clause-lowers : goal.some_falls_below-requires-clause-lowers
 some_falls_below-requires-clause-lowers g c =
     let i = c.self.inside in
     numbers_low g.S.Scale.BITS g.S.Scale.LOW_BITS g.S.Scale.HIGH_BITS g.S.Scale.PI_LO g.S.Scale.PI_HI
-    (scale g) i.word i.functions i.most i.point i.table.items
+    (scale g) i.word i.functions i.point i.table.items
     i.uppers.items i.lowers.items c.deref.result.now c.deref-2.result.now c.self.invariant c.deref.ensures.value c.deref-2.ensures.value
 
 is : (g : given.Over) (c : goal.After-some_falls_below g)
@@ -36,7 +36,7 @@ is g c =
     let i = c.self.inside in
     let r = c.square.result in
     let near = c.square.ensures.neighbourhood in
-    some_test g.S.Scale.BITS g.S.Scale.LOW_BITS g.S.Scale.HIGH_BITS g.S.Scale.PI_LO g.S.Scale.PI_HI (scale g) i.word i.functions i.most i.point i.table.items
+    some_test g.S.Scale.BITS g.S.Scale.LOW_BITS g.S.Scale.HIGH_BITS g.S.Scale.PI_LO g.S.Scale.PI_HI (scale g) i.word i.functions i.point i.table.items
     i.uppers.items i.lowers.items c.deref.result.now c.deref-2.result.now c.self.invariant c.deref.ensures.value c.deref-2.ensures.value
     c.move_to_centre.new.self
     c.self.view_is (centre_of c.args.place).0 (centre_of c.args.place).1 c.move_to_centre.ensures.point r near (ap (λ

@@ -31,14 +31,14 @@ move_to-requires-clause-y_most g c = (unit_triangle (value c.args.x) (value c.ar
 pub each_reaches-requires-clause-uppers : goal.each_reaches-requires-clause-uppers
 each_reaches-requires-clause-uppers g c =
     let i = c.self.inside in
-    numbers_up g.S.Scale.BITS g.S.Scale.LOW_BITS g.S.Scale.HIGH_BITS g.S.Scale.PI_LO g.S.Scale.PI_HI (scale g) i.word i.functions i.most i.point i.table.items
+    numbers_up g.S.Scale.BITS g.S.Scale.LOW_BITS g.S.Scale.HIGH_BITS g.S.Scale.PI_LO g.S.Scale.PI_HI (scale g) i.word i.functions i.point i.table.items
     i.uppers.items i.lowers.items c.deref.result.now c.deref-2.result.now c.self.invariant c.deref.ensures.value c.deref-2.ensures.value
 
 pub each_reaches-requires-clause-lowers : goal.each_reaches-requires-clause-lowers
 each_reaches-requires-clause-lowers g c =
     let i = c.self.inside in
     numbers_low g.S.Scale.BITS g.S.Scale.LOW_BITS g.S.Scale.HIGH_BITS g.S.Scale.PI_LO g.S.Scale.PI_HI
-    (scale g) i.word i.functions i.most i.point i.table.items
+    (scale g) i.word i.functions i.point i.table.items
     i.uppers.items i.lowers.items c.deref.result.now c.deref-2.result.now c.self.invariant c.deref.ensures.value c.deref-2.ensures.value
 
 is : (g : given.Over) (c : goal.After-each_reaches g)
@@ -49,7 +49,7 @@ is g c =
     let i = c.self.inside in
     let r = c.point.result in
     let near = c.point.ensures.neighbourhood in
-    each_test g.S.Scale.BITS g.S.Scale.LOW_BITS g.S.Scale.HIGH_BITS g.S.Scale.PI_LO g.S.Scale.PI_HI (scale g) i.word i.functions i.most i.point i.table.items
+    each_test g.S.Scale.BITS g.S.Scale.LOW_BITS g.S.Scale.HIGH_BITS g.S.Scale.PI_LO g.S.Scale.PI_HI (scale g) i.word i.functions i.point i.table.items
     i.uppers.items i.lowers.items c.deref.result.now c.deref-2.result.now c.self.invariant c.deref.ensures.value c.deref-2.ensures.value c.move_to.new.self
     c.self.view_is c.args.x c.args.y c.move_to.ensures.point r near (ap (λ (b : Ball). b.x) c.point.ensures.ball) (ap (λ
     (b : Ball). b.y) c.point.ensures.ball)

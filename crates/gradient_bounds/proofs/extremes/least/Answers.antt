@@ -1,0 +1,37 @@
+use Rattle.std.proofs.Common.{refl, sym, subst, ℕ, ◌+◌, ◌-◌, ◌<◌, ◌≤◌, length, slice_index_or, pos, ◌≤ℤ◌}
+use Rattle.gradient_bounds.proofs.Outermost.{one_more, less_at_most, not_less_at_most, at_most_itself, at_most_through}
+use Rattle.gradient_bounds.proofs.extremes.least.Goals.{then-is_less, else-is_less}
+use Rattle.gradient_bounds.proofs.extremes.least.Goals as goal
+
+pub loop-edge-preserved : goal.loop-edge-preserved
+loop-edge-preserved c =
+    let num = λ (e : ℕ). slice_index_or c.args.numbers.now (e - 1) (pos 0) in
+    let edges = c.args.edges.now in
+    let i = c.loop-edge.edge-index in
+    let edge = slice_index_or edges i 0 in
+    let place = c.loop-edge.place in
+    let inside : (1 ≤ edge) × (edge ≤ length c.args.numbers.now) = c.requires.edges i 0 c.loop-edge-test.true in
+    elim c.if-is_less.branch [
+      | then-is_less w ↦
+          let less = less_at_most (num edge) (num place) (w.if-is_less.ensures.0 refl) in
+          subst (λ p. record {
+            place : (1 ≤ p) × (p ≤ length c.args.numbers.now);
+            least : (j d : ℕ) → j < i + 1 → num p ≤ℤ num (slice_index_or edges j d);
+          }) (sym w.place-is)
+          (record {
+            place = inside;
+            least = one_more (λ e. num edge ≤ℤ num e) edges i c.loop-edge-test.true
+                (λ j d h. at_most_through (num edge) (num place) (num (slice_index_or edges j d)) less (c.loop-edge.invariant.least j d h))
+                (at_most_itself (num edge));
+          })
+      | else-is_less w ↦
+          let more = not_less_at_most (num edge) (num place) w.if-is_less.ensures in
+          subst (λ p. record {
+            place : (1 ≤ p) × (p ≤ length c.args.numbers.now);
+            least : (j d : ℕ) → j < i + 1 → num p ≤ℤ num (slice_index_or edges j d);
+          }) (sym w.place-is)
+          (record {
+            place = c.loop-edge.invariant.place;
+            least = one_more (λ e. num place ≤ℤ num e) edges i c.loop-edge-test.true c.loop-edge.invariant.least more;
+          })
+    ]
