@@ -11,7 +11,7 @@ use edge_words::Word;
 use gradient_bounds::Prepared;
 use pi_bounds::Fine;
 use rational_polygon::GridBox;
-use std::alloc::{AllocError as OutOfMemory, Global};
+use std::alloc::Global;
 
 /// The tile of a word, in patches of at most the level `depth`: the leaves of a quadtree of the unit square, in preorder.
 ///
@@ -51,9 +51,7 @@ fn patches(
             return Err(TileFault::Full);
         }
         match kind_of(prepared, place, depth) {
-            Some(kind) => patches
-                .push(Patch { place, kind })
-                .map_err(OutOfMemory::from)?,
+            Some(kind) => patches.push(Patch { place, kind })?,
             None => due.divide(place),
         }
     }
