@@ -50,6 +50,32 @@ cause_of w depth patches patch kind tile stands is =
     let all = subst (All (HasItsCause w depth)) (sym tile.leaves_are) (each_has_cause w depth unit_square tile.tree tile.causes) in
     subst (HasCause w depth patch.place) is (All-contains (HasItsCause w depth) patches patch all stands)
 
+-- ---- no patch lies below the full depth
+
+abbrev IsDeep : ℕ → Patch → Type 0
+IsDeep depth patch = patch.place.level ≤ depth
+
+each_is_deep : (w : List ℕ) (depth : ℕ) (box : Square) (t : Tree) → box.level ≤ depth → StandsByCause w depth box t → All (IsDeep depth) (leaves box t)
+each_is_deep w depth box (leaf kind) deep cause = All-cons (IsDeep depth) (patch_at box kind) [] deep (All-nil (IsDeep depth))
+each_is_deep w depth box (divided a b c d) deep causes =
+    let Q = IsDeep depth in
+    let one : (k : ℕ) → (child box k).level ≤ depth = λ k. omega (arith, causes.0.0) in
+    let in_a = each_is_deep w depth (child box 0) a (one 0) causes.1 in
+    let in_b = each_is_deep w depth (child box 1) b (one 1) causes.2 in
+    let in_c = each_is_deep w depth (child box 2) c (one 2) causes.3 in
+    let in_d = each_is_deep w depth (child box 3) d (one 3) causes.4 in
+    let la = leaves (child box 0) a in
+    let lb = leaves (child box 1) b in
+    let lc = leaves (child box 2) c in
+    let ld = leaves (child box 3) d in
+    All-append Q la (lb ++ (lc ++ ld)) in_a (All-append Q lb (lc ++ ld) in_b (All-append Q lc ld in_c in_d))
+
+pub tile_is_deep : (w : List ℕ) (depth : ℕ) (patches : List Patch) → IsTile w depth patches → All (λ patch. patch.place.level ≤ depth) patches
+tile_is_deep w depth patches tile =
+    subst (All (IsDeep depth)) (sym tile.leaves_are) (each_is_deep w depth unit_square tile.tree (omega arith) tile.causes)
+
+-- ---- what a patch says of its triangles
+
 pub inside_is_open_lem : InsideIsOpen
 inside_is_open_lem w depth patches patch p tile stands is inside =
     let cause = cause_of w depth patches patch Inside tile stands is in

@@ -1,2 +1,2 @@
 mod Reached
-mod Leaves
+pub mod Leaves

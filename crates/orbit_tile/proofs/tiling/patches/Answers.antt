@@ -4,6 +4,7 @@ use Rattle.rational_polygon.specs.Square.{Square}
 use Rattle.orbit_tile.specs.declared.patch.Patch.{Patch}
 use Rattle.orbit_tile.specs.Causes.{HasCause, IsDivided}
 use Rattle.orbit_tile.specs.Trees.{patch_at}
+use Rattle.orbit_tile.proofs.Leaves.{tile_is_deep}
 use Rattle.orbit_tile.proofs.Reached.{HasReached, next_reached, after_patch, after_division, whole_tile, begun_tile}
 use Rattle.orbit_tile.proofs.Reached.{left_in_all, less_after_patch, less_after_division}
 use Rattle.orbit_tile.proofs.tiling.patches.Goals as goal
@@ -72,3 +73,9 @@ returns-clause-tile c =
     let inv = c.loop-place.invariant in
     whole_tile c.args.prepared.now.word c.args.depth c.loop-place.patches.items c.loop-place.due inv.reached
     c.in_default.ensures.first
+
+pub returns-clause-levels : goal.returns-clause-levels
+returns-clause-levels c =
+    let inv = c.loop-place.invariant in
+    tile_is_deep c.args.prepared.now.word c.args.depth c.loop-place.patches.items
+    (whole_tile c.args.prepared.now.word c.args.depth c.loop-place.patches.items c.loop-place.due inv.reached c.in_default.ensures.first)
