@@ -1,0 +1,6 @@
+pub mod Svg
+pub mod Coordinates
+pub mod Drawn
+pub mod UnfoldingPicture
+pub mod Angles
+pub mod Ends
