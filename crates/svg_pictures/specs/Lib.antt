@@ -4,3 +4,4 @@ pub mod Drawn
 pub mod UnfoldingPicture
 pub mod Angles
 pub mod Ends
+pub mod TilePicture

@@ -13,7 +13,9 @@ mod frame;
 mod side;
 mod spot;
 mod svg;
+mod tile_picture;
 mod triangles;
 mod unfolding_picture;
 
+pub use tile_picture::write_tile;
 pub use unfolding_picture::write_unfolding;
