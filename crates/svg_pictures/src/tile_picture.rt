@@ -22,8 +22,7 @@ pub fn write_tile<K: Sink>(patches: &[Patch], out: &mut K) -> Result<(), Failed>
     ensures room { K.room out.new ≡ K.room out.old }
     ensures cause { HasCause (K.faults out.old) (K.faults out.new) result }
 {
-    let size = i64::from(SIZE);
-    write_first_line(0, 0, size, size, out)?;
+    write_first_line(0, 0, SIZE as i64, SIZE as i64, out)?;
     write_rectangles(patches, out)?;
     write_last_line(out)
 }

@@ -1,5 +1,5 @@
 //! The picture of an unfolding.
-ghost use Rattle.std.specs.Prelude.{◌≡◌, ◌^◌, ◌≤◌};
+ghost use Rattle.std.specs.Prelude.{◌≡◌, ◌^◌, ◌≤◌, pos, ◌+ℤ◌, ◌-ℤ◌};
 ghost use Rattle.std.specs.Fmt.{signed_decimal};
 ghost use Rattle.std.specs.List.{flat_map};
 ghost use Rattle.mcb_ends.specs.Bytes.{Writes};
@@ -77,17 +77,27 @@ fn write_frame<K: Sink>(frame: &Frame, out: &mut K) -> Result<(), Failed>
     ensures room { K.room out.new ≡ K.room out.old }
     ensures cause { HasCause (K.faults out.old) (K.faults out.new) result }
 {
-    let left = i64::from(frame.left);
-    let right = i64::from(frame.right);
-    let top = i64::from(frame.top);
-    let bottom = i64::from(frame.bottom);
     write_first_line(
-        left - 100,
-        top - 100,
-        right - left + 200,
-        bottom - top + 200,
+        edge(frame.left),
+        edge(frame.top),
+        extent(frame.left, frame.right),
+        extent(frame.top, frame.bottom),
         out,
     )
+}
+
+// The left or the upper edge of what is seen.
+fn edge(least: i32) -> i64
+    ensures { result ≡ least -ℤ pos 100 }
+{
+    i64::from(least) - 100
+}
+
+// Its width or its height.
+fn extent(least: i32, greatest: i32) -> i64
+    ensures { result ≡ greatest -ℤ least +ℤ pos 200 }
+{
+    i64::from(greatest) - i64::from(least) + 200
 }
 
 fn write_polygons<K: Sink>(triangles: &[DrawnTriangle], out: &mut K) -> Result<(), Failed>
