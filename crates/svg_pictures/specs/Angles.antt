@@ -1,0 +1,34 @@
+-- The angles of a triangle over one even denominator, and the axes of the plane. No public clause speaks of these.
+use Rattle.std.specs.Prelude.{ℕ, ◌*◌, ◌^◌, pos, ◌*ℤ◌, ◌≤ℤ◌, unsigned_abs}
+use Rattle.rat_core.specs.Fraction.{ℚ, ◌÷◌, ◌+ℚ◌}
+use Rattle.exp_sums.specs.declared.direction.Dir.{Dir}
+use Rattle.exp_sums.specs.FormalPoint.{FormalPoint}
+use Rattle.trig_meaning.specs.Value.{turn_of, first_coordinate, second_coordinate}
+use Rattle.svg_pictures.specs.declared.angles.Angles.{Angles}
+use Rattle.svg_pictures.specs.declared.axis.Axis.{Axis}
+use Rattle.svg_pictures.specs.declared.axis.Axis.TheVariants.{First, Second}
+
+-- numerators from 0 to the denominator, which is twice the quarter turn and at most 2^41
+pub record IsAngles (a : Angles) : Type 0 where
+  pub positive : pos 1 ≤ℤ a.quarter
+  pub small : a.quarter ≤ℤ pos (2 ^ 40)
+  pub first : pos 0 ≤ℤ a.first
+  pub second : pos 0 ≤ℤ a.second
+  pub first_within : a.first ≤ℤ (pos 2 *ℤ a.quarter)
+  pub second_within : a.second ≤ℤ (pos 2 *ℤ a.quarter)
+
+-- the angles at corners 1 and 2, in half turns
+abbrev pub first_angle : Angles → ℚ
+first_angle a = a.first ÷ (2 * unsigned_abs a.quarter)
+
+abbrev pub second_angle : Angles → ℚ
+second_angle a = a.second ÷ (2 * unsigned_abs a.quarter)
+
+-- a coordinate of a direction is the sine of this many half turns: the first one is the cosine of mx + ny, the sine of a quarter turn more
+abbrev pub turn_along : Axis → Dir → ℚ → ℚ → ℚ
+turn_along First d x y = turn_of d x y +ℚ pos 1 ÷ 2
+turn_along Second d x y = turn_of d x y
+
+abbrev pub coordinate : Axis → ℕ → FormalPoint → ℚ → ℚ → ℚ
+coordinate First n point x y = first_coordinate n point x y
+coordinate Second n point x y = second_coordinate n point x y
