@@ -5,3 +5,6 @@ pub mod Frames
 pub mod Filled
 pub mod EndNumbers
 pub mod Turning
+pub mod Rounded
+pub mod Summing
+pub mod Spots

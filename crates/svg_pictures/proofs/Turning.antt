@@ -152,3 +152,78 @@ quarter_more z (pos d) h =
     over_same (z +ℤ pos d) (z *ℤ pos 2 +ℤ pos 1 *ℤ pos (2 * d)) (2 * d) (2 * d * 2) positive (omega (arith, positive)) cross
     ∙ sym (over-add z (pos 1) (2 * d) 2 positive (omega arith))
 quarter_more z (negsuc d) h = absurd h.le
+
+-- the numerator of a direction's turn, as the machine computes it
+abbrev pub kept_turn : ℤ → ℤ → Angles → ℤ
+kept_turn p q a = kept_numerator p q (over a)
+
+pub turn_computed : (dir : Dir) (a : Angles) (p q : ℤ) → IsNear 65 dir → IsAngles a → p ≡ to_z w32 (of_z w32 dir.m) → q ≡ to_z w32 (of_z w32 dir.n)
+    → IsNumerator dir (over a) (kept_turn p q a)
+turn_computed dir a p q near angles p_is q_is =
+    let m = near.m in
+    let n = near.n in
+    numerator_computed dir (over a) p q (record { m = omega (arith, m); n = omega (arith, n) }) (over_common_angles a angles) p_is q_is
+
+-- how large it is
+turn_size : (dir : Dir) (a : Angles) (p q : ℤ) → IsNear 65 dir → IsAngles a → p ≡ to_z w32 (of_z w32 dir.m) → q ≡ to_z w32 (of_z w32 dir.n)
+    → unsigned_abs (kept_turn p q a) ≤ 2 ^ 51
+turn_size dir a p q near angles p_is q_is =
+    let m = near.m in
+    let n = near.n in
+    let positive = angles.positive in
+    let small = angles.small in
+    let first_size : unsigned_abs a.first ≤ 2 ^ 41 = numerator_size a.first a.quarter small angles.first angles.first_within in
+    let second_size : unsigned_abs a.second ≤ 2 ^ 41 = numerator_size a.second a.quarter small angles.second angles.second_within in
+    let p_at : p ≡ dir.m = p_is ∙ to_z-of_z w32 dir.m (fits_signed_from_abs w32 dir.m (omega (arith, m))) in
+    let q_at : q ≡ dir.n = q_is ∙ to_z-of_z w32 dir.n (fits_signed_from_abs w32 dir.n (omega (arith, n))) in
+    let first : unsigned_abs (dir.m *ℤ a.first) ≤ 65 * 2 ^ 41 = product_size dir.m a.first 65 (2 ^ 41) m first_size in
+    let second : unsigned_abs (dir.n *ℤ a.second) ≤ 65 * 2 ^ 41 = product_size dir.n a.second 65 (2 ^ 41) n second_size in
+    let m_fits = fits_128 dir.m (omega (arith, m)) in
+    let n_fits = fits_128 dir.n (omega (arith, n)) in
+    let first_fits = fits_128 a.first (omega arith) in
+    let second_fits = fits_128 a.second (omega arith) in
+    let first_product = fits_128 (dir.m *ℤ a.first) (omega arith) in
+    let second_product = fits_128 (dir.n *ℤ a.second) (omega arith) in
+    let all : unsigned_abs (dir.m *ℤ a.first +ℤ dir.n *ℤ a.second) ≤ 2 ^ 51 = sum_size (dir.m *ℤ a.first) (dir.n *ℤ a.second) first second in
+    let plain : unsigned_abs (kept_turn dir.m dir.n a) ≤ 2 ^ 51 = simp to_z-of_z all in
+    subst₂ (λ s t. unsigned_abs (kept_turn s t a) ≤ 2 ^ 51) (sym p_at) (sym q_at) plain
+  where
+    numerator_size : (z q : ℤ) → q ≤ℤ pos (2 ^ 40) → pos 0 ≤ℤ z → z ≤ℤ (pos 2 *ℤ q) → unsigned_abs z ≤ 2 ^ 41
+    numerator_size z q h k l = omega (arith, ints)
+
+    sum_size : (a b : ℤ) → unsigned_abs a ≤ 65 * 2 ^ 41 → unsigned_abs b ≤ 65 * 2 ^ 41 → unsigned_abs (a +ℤ b) ≤ 2 ^ 51
+    sum_size a b h k = omega (arith, ints)
+
+-- a quarter turn more, as the machine computes it
+pub record IsQuarterMore (dir : Dir) (a : Angles) (z : ℤ) : Type 0 where
+  pub fits : FitsSigned w128 z
+  pub size : unsigned_abs (kept z) ≤ 2 ^ 52
+  pub turn : kept z ÷ (2 * unsigned_abs a.quarter) ≡ turn_along First dir (first_angle a) (second_angle a)
+
+pub quarter_computed : (dir : Dir) (a : Angles) (p q : ℤ) → IsNear 65 dir → IsAngles a → p ≡ to_z w32 (of_z w32 dir.m) → q ≡ to_z w32 (of_z w32 dir.n)
+    → IsQuarterMore dir a (kept (kept_turn p q a) +ℤ kept a.quarter)
+quarter_computed dir a p q near angles p_is q_is =
+    let positive = angles.positive in
+    let small = angles.small in
+    let z = kept_turn p q a in
+    let is = turn_computed dir a p q near angles p_is q_is in
+    let z_size : unsigned_abs z ≤ 2 ^ 51 = turn_size dir a p q near angles p_is q_is in
+    let quarter_size : unsigned_abs a.quarter ≤ 2 ^ 40 = size a.quarter positive small in
+    let z_fits = fits_128 z (omega arith) in
+    let quarter_fits = fits_128 a.quarter (omega arith) in
+    let all : unsigned_abs (z +ℤ a.quarter) ≤ 2 ^ 52 = sum_size z a.quarter z_size quarter_size in
+    let all_fits = fits_128 (z +ℤ a.quarter) (omega arith) in
+    let turn : z ÷ (2 * unsigned_abs a.quarter) ≡ turn_of dir (first_angle a) (second_angle a) = simp to_z-of_z at is.turn in
+    let plain : IsQuarterMore dir a (z +ℤ a.quarter) = record {
+      fits = all_fits;
+      size = simp to_z-of_z all;
+      turn = simp to_z-of_z (quarter_more z a.quarter positive ∙ ap (λ t. t +ℚ pos 1 ÷ 2) turn);
+    }
+    in
+    subst₂ (λ s t. IsQuarterMore dir a (s +ℤ t)) (sym (to_z-of_z w128 z z_fits)) (sym (to_z-of_z w128 a.quarter quarter_fits)) plain
+  where
+    size : (q : ℤ) → pos 1 ≤ℤ q → q ≤ℤ pos (2 ^ 40) → unsigned_abs q ≤ 2 ^ 40
+    size q h k = omega (arith, ints)
+
+    sum_size : (a b : ℤ) → unsigned_abs a ≤ 2 ^ 51 → unsigned_abs b ≤ 2 ^ 40 → unsigned_abs (a +ℤ b) ≤ 2 ^ 52
+    sum_size a b h k = omega (arith, ints)
