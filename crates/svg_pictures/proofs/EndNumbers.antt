@@ -1,7 +1,7 @@
 -- The corner that an end of an edge is, by its number.
 use Rattle.std.proofs.Common.{◌≡◌, ℕ, ◌+◌, ◌-◌, ◌<◌, ◌≤◌, List, length, get_or, slice_index, take, subst, sym, ap, refl, ◌∙◌, arith}
 use Rattle.std.proofs.lemmas.List.{get_or_default, length-take-le}
-use Rattle.edge_words.specs.Letters.{IsPlace, letter_at}
+use Rattle.edge_words.specs.Letters.{letter_at}
 use Rattle.unfolding.specs.Triangle.{IsCorner, corner_of}
 use Rattle.svg_pictures.specs.declared.side.Side.{Side}
 use Rattle.svg_pictures.specs.declared.side.Side.TheVariants.{Upper, Lower}

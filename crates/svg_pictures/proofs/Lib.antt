@@ -8,3 +8,4 @@ pub mod Turning
 pub mod Rounded
 pub mod Summing
 pub mod Spots
+pub mod Pictures

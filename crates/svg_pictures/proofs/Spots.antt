@@ -1,5 +1,5 @@
 -- The spot of a point, by its rounded coordinates.
-use Rattle.std.proofs.Common.{◌≡◌, refl, sym, ap, ◌∙◌, subst, subst₂, ℕ, ◌^◌, ◌≤◌, List, ℤ, pos, ◌-ℤ◌, neg_ℤ, unsigned_abs, FitsSigned, to_z, of_z, arith}
+use Rattle.std.proofs.Common.{◌≡◌, sym, ap, ◌∙◌, subst, subst₂, ◌^◌, ◌≤◌, List, ℤ, pos, ◌-ℤ◌, neg_ℤ, unsigned_abs, FitsSigned, to_z, of_z, arith}
 use Rattle.std.specs.Int.{w32}
 use Rattle.std.proofs.lemmas.Int.{ints, to_z-of_z, fits_signed_from_abs}
 use Rattle.rat_core.specs.Fraction.{ℚ, ◌÷◌, whole, ◌-ℚ◌, ◌*ℚ◌, neg_ℚ, ◌≤ℚ◌, abs}
@@ -11,7 +11,6 @@ use Rattle.trig_meaning.proofs.FromSomeOnLaws.{onward}
 use Rattle.directed_fixed.specs.Ends.{Ends, Encloses}
 use Rattle.svg_pictures.specs.declared.axis.Axis.{Axis}
 use Rattle.svg_pictures.specs.declared.axis.Axis.TheVariants.{First, Second}
-use Rattle.svg_pictures.specs.declared.spot.Spot.{Spot}
 use Rattle.svg_pictures.specs.Angles.{coordinate_of}
 use Rattle.svg_pictures.specs.Coordinates.{IsWithinOne, IsPictureOf}
 use Rattle.svg_pictures.proofs.Rounded.{negative_near}

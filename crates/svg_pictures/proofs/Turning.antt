@@ -1,6 +1,6 @@
 -- Angles over an even denominator, and turns of directions over it.
-use Rattle.std.proofs.Common.{◌≡◌, refl, sym, ap, ap₂, ◌∙◌, subst, subst₂, ℕ, ◌+◌, ◌*◌, ◌^◌, ◌<◌, ◌≤◌, ℤ, pos, negsuc, ◌+ℤ◌, ◌*ℤ◌, ◌≤ℤ◌}
-use Rattle.std.proofs.Common.{unsigned_abs, FitsSigned, to_z, of_z, arith, mul-pos, mul-le-mul}
+use Rattle.std.proofs.Common.{◌≡◌, refl, sym, ap, ap₂, ◌∙◌, subst₂, ◌*◌, ◌^◌, ◌<◌, ◌≤◌, ℤ, pos, negsuc, ◌+ℤ◌, ◌*ℤ◌, ◌≤ℤ◌}
+use Rattle.std.proofs.Common.{unsigned_abs, FitsSigned, to_z, of_z, arith}
 use Rattle.std.specs.Int.{w32, w128}
 use Rattle.std.proofs.lemmas.Int.{ints, to_z-of_z, fits_signed_from_abs}
 use Rattle.ring_solver.specs.Expression.{num, ◌⊞◌, ◌⊠◌}
@@ -17,10 +17,9 @@ use Rattle.exp_sums.specs.Limits.{IsNear}
 use Rattle.trig_meaning.specs.Value.{turn_of}
 use Rattle.gradient_bounds.specs.declared.angles.Angles.{Angles as CommonAngles}
 use Rattle.gradient_bounds.specs.Angles.{IsAngles as AreCommon}
-use Rattle.gradient_bounds.proofs.Turning.{IsUnitPoint, IsCommon, kept, kept_common, common_computed, kept_numerator, IsNumerator, numerator_computed}
+use Rattle.gradient_bounds.proofs.Turning.{IsUnitPoint, IsCommon, kept, common_computed, kept_numerator, IsNumerator, numerator_computed}
 use Rattle.svg_pictures.specs.declared.angles.Angles.{Angles}
-use Rattle.svg_pictures.specs.declared.axis.Axis.{Axis}
-use Rattle.svg_pictures.specs.declared.axis.Axis.TheVariants.{First, Second}
+use Rattle.svg_pictures.specs.declared.axis.Axis.TheVariants.{First}
 use Rattle.svg_pictures.specs.Angles.{IsAngles, first_angle, second_angle, turn_along}
 
 fits_128 : (z : ℤ) → unsigned_abs z ≤ 2 ^ 120 → FitsSigned w128 z

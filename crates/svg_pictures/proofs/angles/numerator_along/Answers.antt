@@ -1,5 +1,3 @@
-use Rattle.std.proofs.Common.{◌≡◌, sym, subst}
-use Rattle.svg_pictures.specs.Angles.{first_angle, second_angle, turn_along}
 use Rattle.svg_pictures.proofs.Turning.{turn_computed, quarter_computed}
 use Rattle.svg_pictures.proofs.angles.numerator_along.Goals as goal
 

@@ -1,8 +1,8 @@
-use Rattle.std.proofs.Common.{◌+◌, ◌<◌, ◌≤◌, length, ◌∙◌, arith, subst}
+use Rattle.std.proofs.Common.{◌<◌, ◌≤◌, length, ◌∙◌, arith}
 use Rattle.std.proofs.Math.ListN.{length-set}
 use Rattle.svg_pictures.proofs.Blank.{blank_triangle}
 use Rattle.svg_pictures.proofs.EndNumbers.{IsSpotOfEnd, spot_of_end, ends_filled}
-use Rattle.svg_pictures.proofs.Filled.{IsFilled, filled_more}
+use Rattle.svg_pictures.proofs.Filled.{filled_more}
 use Rattle.svg_pictures.proofs.ends.ends.Goals as goal
 
 pub loop-j-preserved : goal.loop-j-preserved

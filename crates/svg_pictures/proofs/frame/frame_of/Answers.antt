@@ -1,4 +1,4 @@
-use Rattle.std.proofs.Common.{ℕ, List, ◌∷◌, take, subst, sym, slice_index_or, arith}
+use Rattle.std.proofs.Common.{List, ◌∷◌, take, subst, sym, slice_index_or}
 use Rattle.std.proofs.lemmas.List.{take_all}
 use Rattle.svg_pictures.specs.declared.drawn.DrawnTriangle.{DrawnTriangle}
 use Rattle.svg_pictures.specs.declared.frame.Frame.{Frame}
