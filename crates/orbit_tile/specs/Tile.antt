@@ -10,8 +10,12 @@ pub record IsTile (w : List ℕ) (depth : ℕ) (patches : List Patch) : Type 0 w
   pub leaves_are : patches ≡ leaves unit_square tree
   pub causes : StandsByCause w depth unit_square tree
 
--- So many patches are the first leaves of such a tree, each patch and each division so far by its cause, and a box is still due.
-pub record IsFull (w : List ℕ) (depth limit : ℕ) : Type 0 where
+-- the patches are the first leaves of such a tree, each patch and each division so far by its cause, and a box is still due
+pub record IsBegunTile (w : List ℕ) (depth : ℕ) (patches : List Patch) : Type 0 where
   pub tree : BegunTree
-  pub count : length (first_leaves unit_square tree) ≡ limit
+  pub leaves_are : patches ≡ first_leaves unit_square tree
   pub causes : BeginsByCause w depth unit_square tree
+
+-- it has so many patches so far, and a box is still due
+abbrev pub IsFull : List ℕ → ℕ → ℕ → Type 0
+IsFull w depth limit = (patches : List Patch) × IsBegunTile w depth patches × (length patches ≡ limit)

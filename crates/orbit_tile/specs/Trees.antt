@@ -36,7 +36,7 @@ StandsByCause w depth box (divided a b c d) =
 
 -- a box that is still due, or a division of which the trees before one child are whole, and this child's tree is begun
 pub data BegunTree : Type 0 where
-  due : BegunTree
+  still_due : BegunTree
   in_first : BegunTree → BegunTree
   in_second : Tree → BegunTree → BegunTree
   in_third : Tree → Tree → BegunTree → BegunTree
@@ -44,7 +44,7 @@ pub data BegunTree : Type 0 where
 
 -- the patches before the box that is due first
 abbrev pub first_leaves : Square → BegunTree → List Patch
-first_leaves box due = []
+first_leaves box still_due = []
 first_leaves box (in_first a) = first_leaves (child box 0) a
 first_leaves box (in_second a b) = leaves (child box 0) a ++ first_leaves (child box 1) b
 first_leaves box (in_third a b c) = leaves (child box 0) a ++ (leaves (child box 1) b ++ first_leaves (child box 2) c)
@@ -53,7 +53,7 @@ first_leaves box (in_fourth a b c d) =
 
 -- each patch and each division so far has its cause
 abbrev pub BeginsByCause : List ℕ → ℕ → Square → BegunTree → Type 0
-BeginsByCause w depth box due = ⊤
+BeginsByCause w depth box still_due = ⊤
 BeginsByCause w depth box (in_first a) = IsDivided w depth box × BeginsByCause w depth (child box 0) a
 BeginsByCause w depth box (in_second a b) = IsDivided w depth box × StandsByCause w depth (child box 0) a × BeginsByCause w depth (child box 1) b
 BeginsByCause w depth box (in_third a b c) =

@@ -3,7 +3,7 @@ ghost use Rattle.orbit_tile.specs.declared.fault.TileFault.TheVariants.{Memory};
 ghost use Rattle.orbit_tile.specs.Faults.{fault_of};
 
 use gradient_bounds::PrepareFault;
-use std::alloc::AllocError as OutOfMemory;
+use std::alloc::AllocFailed;
 use thiserror::Error;
 
 /// Why a tile was not made.
@@ -20,10 +20,10 @@ pub enum TileFault {
     Memory,
 }
 
-impl From<OutOfMemory> for TileFault {
+impl<T: Drop> From<AllocFailed<T>> for TileFault {
     ghost from_gives = { λ _ e. e ≡ Memory };
 
-    fn from(_e: OutOfMemory) -> TileFault {
+    fn from(_e: AllocFailed<T>) -> TileFault {
         TileFault::Memory
     }
 }

@@ -8,6 +8,8 @@ mod due;
 mod fault;
 pub mod laws;
 mod patch;
+#[cfg(test)]
+mod tests;
 mod tiling;
 
 pub use fault::TileFault;

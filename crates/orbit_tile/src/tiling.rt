@@ -1,4 +1,4 @@
-ghost use Rattle.std.specs.Prelude.{◌≡◌, ◌↔◌, ◌+◌, ◌^◌, ◌≤◌, length, IsTrue, IfOk, IsErrOf, MatchOption};
+ghost use Rattle.std.specs.Prelude.{◌≡◌, ◌↔◌, ◌+◌, ◌^◌, ◌≤◌, length, All, IsTrue, IfOk, IsErrOf, MatchOption};
 ghost use Rattle.edge_words.specs.Stable.{IsStable};
 ghost use Rattle.orbit_tile.specs.declared.TheConstants.{MAX_DEPTH, MAX_PATCHES};
 ghost use Rattle.orbit_tile.specs.declared.fault.TileFault.TheVariants.{Unstable, Full};
@@ -11,7 +11,7 @@ use edge_words::Word;
 use gradient_bounds::Prepared;
 use pi_bounds::Fine;
 use rational_polygon::GridBox;
-use std::alloc::{AllocError as OutOfMemory, Global};
+use std::alloc::Global;
 
 /// The tile of a word, in patches of at most the level `depth`: the leaves of a quadtree of the unit square, in preorder.
 ///
@@ -23,6 +23,7 @@ pub fn tile(alloc: Global, word: &Word, depth: u32, limit: u32) -> Result<Vec<Pa
     requires at_most { limit ≤ MAX_PATCHES }
     ensures tile { IfOk result (λ patches. IsTile word.now depth patches.items) }
     ensures within { IfOk result (λ patches. length patches.items ≤ limit) }
+    ensures levels { IfOk result (λ patches. All (λ patch. patch.place.level ≤ depth) patches.items) }
     ensures full { IsErrOf result Full → IsFull word.now depth limit }
     ensures unstable { IsErrOf result Unstable ↔ ¬ (IsStable word.now) }
 {
@@ -41,6 +42,7 @@ fn patches(
     requires limit { limit ≤ MAX_PATCHES }
     ensures tile { IfOk result (λ patches. IsTile prepared.old.word depth patches.items) }
     ensures within { IfOk result (λ patches. length patches.items ≤ limit) }
+    ensures levels { IfOk result (λ patches. All (λ patch. patch.place.level ≤ depth) patches.items) }
     ensures full { IsErrOf result Full → IsFull prepared.old.word depth limit }
     ensures stable { ¬ (IsErrOf result Unstable) }
 {
@@ -51,9 +53,7 @@ fn patches(
             return Err(TileFault::Full);
         }
         match kind_of(prepared, place, depth) {
-            Some(kind) => patches
-                .push(Patch { place, kind })
-                .map_err(OutOfMemory::from)?,
+            Some(kind) => patches.push(Patch { place, kind })?,
             None => due.divide(place),
         }
     }
