@@ -1,9 +1,12 @@
 -- The angles of a triangle over one even denominator, and the axes of the plane. No public clause speaks of these.
-use Rattle.std.specs.Prelude.{ℕ, ◌*◌, ◌^◌, pos, ◌*ℤ◌, ◌≤ℤ◌, unsigned_abs}
+use Rattle.std.specs.Prelude.{ℕ, List, ◌*◌, ◌^◌, pos, ◌*ℤ◌, ◌≤ℤ◌, unsigned_abs}
 use Rattle.rat_core.specs.Fraction.{ℚ, ◌÷◌, ◌+ℚ◌}
+use Rattle.rat_core.specs.Ring.{ℚ_ring, ℚ_image}
 use Rattle.exp_sums.specs.declared.direction.Dir.{Dir}
-use Rattle.exp_sums.specs.FormalPoint.{FormalPoint}
-use Rattle.trig_meaning.specs.Value.{turn_of, first_coordinate, second_coordinate}
+use Rattle.exp_sums.specs.declared.terms.Term.{Term}
+use Rattle.exp_sums.specs.Weigh.{weigh_terms}
+use Rattle.trig_meaning.specs.Turn.{sine_of_turn}
+use Rattle.trig_meaning.specs.Value.{turn_of}
 use Rattle.svg_pictures.specs.declared.angles.Angles.{Angles}
 use Rattle.svg_pictures.specs.declared.axis.Axis.{Axis}
 use Rattle.svg_pictures.specs.declared.axis.Axis.TheVariants.{First, Second}
@@ -29,6 +32,6 @@ abbrev pub turn_along : Axis → Dir → ℚ → ℚ → ℚ
 turn_along First d x y = turn_of d x y +ℚ pos 1 ÷ 2
 turn_along Second d x y = turn_of d x y
 
-abbrev pub coordinate : Axis → ℕ → FormalPoint → ℚ → ℚ → ℚ
-coordinate First n point x y = first_coordinate n point x y
-coordinate Second n point x y = second_coordinate n point x y
+-- the coordinate along an axis of the sum of some terms, by the n-th approximation
+abbrev pub coordinate_of : Axis → ℕ → List Term → ℚ → ℚ → ℚ
+coordinate_of axis n ts x y = weigh_terms ℚ_ring ℚ_image (λ d. sine_of_turn n (turn_along axis d x y)) ts

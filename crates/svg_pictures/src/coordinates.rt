@@ -1,11 +1,12 @@
 //! The coordinates of formal points, by sums of sines.
 ghost use Rattle.std.specs.Prelude.{◌≡◌, ℕ, ◌*◌, ◌^◌, ◌≤◌, pos, ◌+ℤ◌, ◌≤ℤ◌, unsigned_abs};
+ghost use Rattle.std.specs.List.{All};
 ghost use Rattle.rat_core.specs.Fraction.{ℚ, ◌÷◌, whole, ◌-ℚ◌, ◌*ℚ◌, ◌≤ℚ◌, abs};
-ghost use Rattle.exp_sums.specs.Limits.{IsNear, weight, IsWithin as HasDirsWithin};
+ghost use Rattle.exp_sums.specs.Limits.{IsNear, weight, terms_weight, IsWithin as HasDirsWithin};
 ghost use Rattle.trig_meaning.specs.FromSomeOn.{FromSomeOn};
 ghost use Rattle.trig_meaning.specs.Turn.{sine_of_turn};
 ghost use Rattle.directed_fixed.specs.Ends.{Encloses, IsWithin};
-ghost use Rattle.svg_pictures.specs.Angles.{IsAngles, first_angle, second_angle, turn_along, coordinate as coordinate_of};
+ghost use Rattle.svg_pictures.specs.Angles.{IsAngles, first_angle, second_angle, turn_along, coordinate_of};
 ghost use Rattle.svg_pictures.specs.Coordinates.{IsPictureOf};
 
 use crate::angles::{Angles, numerator_along};
@@ -24,8 +25,8 @@ pub fn spot_of(point: &ExpSum, at: &Angles) -> Spot
     ensures { IsPictureOf point.now (first_angle at.now) (second_angle at.now) result }
 {
     Spot {
-        across: rounded(coordinate(point, at, Axis::First)),
-        down: -rounded(coordinate(point, at, Axis::Second)),
+        across: rounded(coordinate(point.terms(), at, Axis::First)),
+        down: -rounded(coordinate(point.terms(), at, Axis::Second)),
     }
 }
 
@@ -40,18 +41,18 @@ fn rounded(x: Interval<Fine>) -> i32
     ((1000 * x.lo() + (1 << 59)) >> 60) as i32
 }
 
-/// What a coordinate of a formal point lies in: the sum over its terms of the coefficient times the coordinate of the
-/// direction. It is at most 256 units wide for each unit of the point's weight.
-fn coordinate(point: &ExpSum, at: &Angles, axis: Axis) -> Interval<Fine>
-    requires light { weight point.now ≤ 255 }
-    requires within { HasDirsWithin 65 point.now }
+/// What a coordinate of a sum of terms lies in: the sum of the coefficient times the coordinate of the direction. It is at
+/// most 256 units wide for each unit of the terms' weight.
+fn coordinate(terms: &[Term], at: &Angles, axis: Axis) -> Interval<Fine>
+    requires light { terms_weight terms.now ≤ 255 }
+    requires near { All (λ term. IsNear 65 term.dir) terms.now }
     requires angles { IsAngles at.now }
-    ensures encloses { FromSomeOn (λ n. Encloses 60 result (coordinate_of axis n point.now (first_angle at.now) (second_angle at.now))) }
+    ensures encloses { FromSomeOn (λ n. Encloses 60 result (coordinate_of axis n terms.now (first_angle at.now) (second_angle at.now))) }
     ensures width { result.hi ≤ℤ (result.lo +ℤ pos (2 ^ 16)) }
     ensures size { IsWithin (2 ^ 70) result }
 {
     let mut total = Interval::new(0, 0);
-    for term in point.terms() {
+    for term in terms {
         total = total.add(multiple(term, at, axis));
     }
     total

@@ -1,6 +1,6 @@
 //! The triangles of an unfolding, drawn.
 ghost use Rattle.std.specs.Prelude.{◌≡◌, ◌+◌, ◌≤◌, length, take};
-ghost use Rattle.unfolding.specs.Triangle.{IsCorner};
+ghost use Rattle.edge_words.specs.declared.TheConstants.{MAX_LETTERS};
 ghost use Rattle.svg_pictures.specs.Angles.{IsAngles, first_angle, second_angle};
 ghost use Rattle.svg_pictures.specs.UnfoldingPicture.{IsPictureOfTriangle, IsPictureOfWord};
 
@@ -27,6 +27,7 @@ pub fn draw_triangles(u: &Unfolding, at: &Angles) -> [DrawnTriangle; MAX_TRIANGL
 
 fn draw_triangle(u: &Unfolding, k: u32, at: &Angles) -> DrawnTriangle
     requires within { k ≤ length u.now }
+    requires few { k ≤ MAX_LETTERS }
     requires angles { IsAngles at.now }
     ensures { IsPictureOfTriangle u.now k (first_angle at.now) (second_angle at.now) result }
 {
