@@ -1,7 +1,5 @@
 -- The right answers of `tile`.
-use Rattle.std.proofs.Common.{◌≡◌, ℕ, List, Option, refl, subst}
-use Rattle.edge_words.specs.Reading.{Spells}
-use Rattle.edge_words.specs.Stable.{IsStable}
+use Rattle.std.proofs.Common.{ℕ, List, Option, refl, subst}
 use Rattle.orbit_tile.specs.Tile.{IsFull}
 use Rattle.orbit_tile.specs.declared.TheConstants.{MAX_PATCHES}
 use Rattle.billiards_cli.specs.Commands.Tile.{HasTile, IsTileAnswer, IsTileDue}
