@@ -2,11 +2,16 @@ use crate::tests::fixtures::{arguments_of, assert_answer, sink, source};
 use crate::{Status, run};
 use std::test::Fail;
 
-const GRAY: &str =
-    "<svg xmlns=\"http://www.w3.org/2000/svg\" viewBox=\"0 0 1024 1024\">\n<rect x=\"0\" y=\"0\" width=\"1024\" height=\"1024\" fill=\"gray\"/>\n</svg>\n";
+const GRAY: &str = "<svg xmlns=\"http://www.w3.org/2000/svg\" viewBox=\"0 0 1024 1024\">\n\
+    <rect x=\"0\" y=\"0\" width=\"1024\" height=\"1024\" fill=\"gray\"/>\n\
+    </svg>\n";
 
-const QUARTERS: &str =
-    "<svg xmlns=\"http://www.w3.org/2000/svg\" viewBox=\"0 0 1024 1024\">\n<rect x=\"0\" y=\"512\" width=\"512\" height=\"512\" fill=\"gray\"/>\n<rect x=\"512\" y=\"512\" width=\"512\" height=\"512\" fill=\"gray\"/>\n<rect x=\"0\" y=\"0\" width=\"512\" height=\"512\" fill=\"gray\"/>\n<rect x=\"512\" y=\"0\" width=\"512\" height=\"512\" fill=\"silver\"/>\n</svg>\n";
+const QUARTERS: &str = "<svg xmlns=\"http://www.w3.org/2000/svg\" viewBox=\"0 0 1024 1024\">\n\
+    <rect x=\"0\" y=\"512\" width=\"512\" height=\"512\" fill=\"gray\"/>\n\
+    <rect x=\"512\" y=\"512\" width=\"512\" height=\"512\" fill=\"gray\"/>\n\
+    <rect x=\"0\" y=\"0\" width=\"512\" height=\"512\" fill=\"gray\"/>\n\
+    <rect x=\"512\" y=\"0\" width=\"512\" height=\"512\" fill=\"silver\"/>\n\
+    </svg>\n";
 
 // A word and a depth, with the picture or the refusal.
 #[test]
@@ -14,6 +19,7 @@ fn tile_draws_its_word(rt: HostRuntime) -> Result<(), Fail> {
     let rows = [
         (["tile", "123123", "0"], Status::Done, GRAY),
         (["tile", "123123", "1"], Status::Done, QUARTERS),
+        (["tile", "123123", "10"], Status::Full, ""),
         (
             ["tile", "121323", "1"],
             Status::Malformed,
