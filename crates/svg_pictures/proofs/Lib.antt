@@ -1,0 +1,11 @@
+pub mod Blank
+pub mod Kept
+pub mod Texts
+pub mod Frames
+pub mod Filled
+pub mod EndNumbers
+pub mod Turning
+pub mod Rounded
+pub mod Summing
+pub mod Spots
+pub mod Pictures

@@ -1,0 +1,7 @@
+pub mod Svg
+pub mod Coordinates
+pub mod Drawn
+pub mod UnfoldingPicture
+pub mod Angles
+pub mod Ends
+pub mod TilePicture
