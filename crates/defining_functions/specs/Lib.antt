@@ -3,3 +3,5 @@ pub mod Heights
 pub mod Laws
 pub mod Tables
 pub mod Kept
+pub mod Steps
+pub mod Edges
