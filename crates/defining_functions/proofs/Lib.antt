@@ -3,3 +3,4 @@ pub mod Limits
 pub mod Differences
 pub mod SideSteps
 pub mod Kept
+pub mod Steps

@@ -1,6 +1,7 @@
 //! The steps from height to height along a word.
 ghost use Rattle.std.specs.Prelude.{◌≡◌, ◌↔◌, ◌+◌, [], length, IfOk, OnOk, IsErrOf};
 ghost use Rattle.edge_words.specs.Letters.{IsPlace};
+ghost use Rattle.edge_words.specs.Word.{IsWord};
 ghost use Rattle.exp_sums.specs.FormalPoint.{FormalPoint, conj};
 ghost use Rattle.unfolding.specs.Shift.{IsShift, HasShift};
 ghost use Rattle.defining_functions.specs.Kept.{IsSmall};
@@ -68,6 +69,7 @@ impl HeightSteps {
         conjugate: &ExpSum,
         i: u32,
     ) -> Result<(), OutOfMemory>
+        requires word { IsWord u.now }
         requires place { IsPlace u.now (i + 1) }
         requires small { IsSmall conjugate.now }
         requires conjugate { (v : FormalPoint) → IsShift u.now v → conjugate.now ≡ conj v }

@@ -1,6 +1,7 @@
 //! Which end an edge shares with the edge before.
 ghost use Rattle.std.specs.Prelude.{◌+◌};
 ghost use Rattle.edge_words.specs.Letters.{IsPlace};
+ghost use Rattle.edge_words.specs.Word.{IsWord};
 ghost use Rattle.defining_functions.specs.Steps.{SharesEnd};
 
 use unfolding::Unfolding;
@@ -18,7 +19,8 @@ pub enum SharedEnd {
 
 /// The end that the edge i + 1 shares with the edge i.
 pub fn shared_end(u: &Unfolding, i: u32) -> SharedEnd
-    requires { IsPlace u.now (i + 1) }
+    requires word { IsWord u.now }
+    requires place { IsPlace u.now (i + 1) }
     ensures { SharesEnd u.now i result }
 {
     if i == 0 {
