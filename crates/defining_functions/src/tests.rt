@@ -1,4 +1,4 @@
-use crate::{Functions, FunctionsFault};
+use crate::{Functions, FunctionsFault, HeightSteps, SharedEnd};
 use edge_words::Word;
 use exp_sums::{Dir, Term};
 use std::test::Fail;
@@ -124,6 +124,28 @@ fn tells_all_functions_of_123123(rt: HostRuntime) -> Result<(), Fail> {
                 weight == 11 && has_one_cosine(terms) || weight == 15 && has_three_cosines(terms)
             );
         }
+    }
+    Ok(())
+}
+
+// From the centres of its triangles the ends of the edges of 123123 are seen in seven directions: (-1, -1), and in turn
+// (1, -1), (-1, -3), (-3, -3), (-3, -1), (-1, 1) and (1, 1). Four forms are not alike.
+#[test]
+fn steps_of_123123(rt: HostRuntime) -> Result<(), Fail> {
+    let word = Word::read(rt.alloc(), b"123123")?;
+    let unfolding = Unfolding::of(rt.alloc(), &word)?;
+    let steps = HeightSteps::of(rt.alloc(), &unfolding)?;
+    assert_eq!(rt; (steps.forms.len(), steps.steps.len()), (4, 6));
+    let shared = [
+        SharedEnd::Neither,
+        SharedEnd::Upper,
+        SharedEnd::Lower,
+        SharedEnd::Upper,
+        SharedEnd::Lower,
+        SharedEnd::Upper,
+    ];
+    for (i, end) in shared.iter().enumerate() {
+        assert!(rt; steps.steps[i].shared == *end);
     }
     Ok(())
 }

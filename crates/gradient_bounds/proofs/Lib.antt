@@ -15,3 +15,4 @@ pub mod Marks
 pub mod Numbering
 pub mod Tested
 pub mod Tests
+pub mod Stepping

@@ -71,17 +71,18 @@ module _ (w : List ℕ) (old new : List SineLow) (same : map (λ (e : SineLow). 
         ∙ ap (λ (e : SineLow). e.dir) any.3 ∙ any.4);
   }
 
-pub filled_again : (bits : ℕ) (w u : List ℕ) (m : Most) (p : Option (Written × Written)) (table new table' : List SineLow)
+pub filled_again : (bits : ℕ) (w u s s' : List ℕ) (m : Most) (p : Option (Written × Written)) (table new table' : List SineLow)
     (us ls us' ls' us'' ls'' : List ℤ) (x y : Written)
-    → IsPrepared bits w u m p table us ls → map (λ (e : SineLow). e.dir) new ≡ map (λ (e : SineLow). e.dir) table → All (IsLowAt bits (value x) (value y)) new
+    → IsPrepared bits w u s m p table us ls → map (λ (e : SineLow). e.dir) new ≡ map (λ (e : SineLow). e.dir) table → All (IsLowAt bits (value x) (value y)) new
     → All IsSmallEntry new → AreUppers u new us' → AreLowers u new ls' → table' ≡ new → us'' ≡ us' → ls'' ≡ ls'
-    → IsPrepared bits w u m (Some (x, y)) table' us'' ls''
-filled_again bits w u m p table new table' us ls us' ls' us'' ls'' x y h same lows small uppers lowers table_is us_is ls_is =
-    subst (λ es. IsPrepared bits w u m (Some (x, y)) es us'' ls'') (sym table_is)
-    (subst₂ (λ a b. IsPrepared bits w u m (Some (x, y)) new a b) (sym us_is) (sym ls_is) (record {
+    → s' ≡ s → IsPrepared bits w u s' m (Some (x, y)) table' us'' ls''
+filled_again bits w u s s' m p table new table' us ls us' ls' us'' ls'' x y h same lows small uppers lowers table_is us_is ls_is sums_are =
+    subst (λ es. IsPrepared bits w u s' m (Some (x, y)) es us'' ls'') (sym table_is)
+    (subst₂ (λ a b. IsPrepared bits w u s' m (Some (x, y)) new a b) (sym us_is) (sym ls_is) (record {
       word = h.word;
       stable = h.stable;
       same_word = h.same_word;
+      same_sums = sums_are ∙ h.same_sums;
       most = h.most;
       directions = same_table w table new same h.directions;
       small = small;
@@ -131,8 +132,8 @@ pub record IsSomeTest (bits low high : ℕ) (pi : ℤ) (u : List ℕ) (us ls : L
   pub shut : SomeFallsBelow (needed bits low pi r) u us ls → SomeFunction now.word (IsShutIn (ball_of r) (slack low))
   pub found : SomeFunction now.word (IsShutIn (ball_of r) (slack high)) → SomeFallsBelow (needed bits low pi r) u us ls
 
-module _ (bits low high : ℕ) (L H : ℤ) (scale : IsScale bits low high L H) (w u : List ℕ) (m : Most) (p : Option (Written × Written)) (table : List SineLow)
-    (us ls us' ls' : List ℤ) (h : IsPrepared bits w u m p table us ls) (us_is : us' ≡ us) (ls_is : ls' ≡ ls) where
+module _ (bits low high : ℕ) (L H : ℤ) (scale : IsScale bits low high L H) (w u : List ℕ) {s : List ℕ} (m : Most) (p : Option (Written × Written)) (table : List SineLow)
+    (us ls us' ls' : List ℤ) (h : IsPrepared bits w u s m p table us ls) (us_is : us' ≡ us) (ls_is : ls' ≡ ls) where
   tested : IsTested w table us ls
   tested = record { word = h.word; stable = h.stable; directions = h.directions; uppers = h.uppers; lowers = h.lowers }
 
@@ -227,8 +228,8 @@ pub record IsBound (bits : ℕ) (now : PreparedWord) (form : List ℕ → Formal
       → IfSome now.point (λ q. (v : FormalPoint) → IsShift now.word v → FromSomeOn (λ n. Encloses bits r (value_at n (form now.word v) (value q.0)
       (value q.1))))
 
-module _ (bits : ℕ) (w u : List ℕ) (m : Most) (p : Option (Written × Written)) (table : List SineLow) (us ls : List ℤ)
-    (h : IsPrepared bits w u m p table us ls)
+module _ (bits : ℕ) (w u : List ℕ) {s : List ℕ} (m : Most) (p : Option (Written × Written)) (table : List SineLow) (us ls : List ℤ)
+    (h : IsPrepared bits w u s m p table us ls)
     (now : PreparedWord) (view : ◌≡◌ {A = PreparedWord} (record { word = w; point = p; table = table }) now) where
   bound_of : (form : List ℕ → FormalPoint → FormalPoint) (c z : ℤ) → ((v : FormalPoint) → IsShift w v → IsListed table (form w v)) → unsigned_abs c ≤ 2 ^ 80
       → ((v : FormalPoint) → IsShift w v → c ≡ number_in table (form w v)) → ((v : FormalPoint) → IsShift u v → z ≡ pos (weight (form u v))) → z ≤ℤ pos 16384
@@ -316,15 +317,16 @@ module _ (bits : ℕ) (w u : List ℕ) (m : Most) (p : Option (Written × Writte
 
 -- ---- a new one
 
-pub prepared_from : (bits : ℕ) (w v u f : List ℕ) (m : Most) (table : List SineLow) (us ls us' ls' : List ℤ) → v ≡ w → u ≡ w → f ≡ u → IsWord u → IsStable w
+pub prepared_from : (bits : ℕ) (w v u f s : List ℕ) (m : Most) (table : List SineLow) (us ls us' ls' : List ℤ) → v ≡ w → u ≡ w → f ≡ u → IsWord u → IsStable w
     → IsMost f m → IsTableOf f table → All IsSmallEntry table → AreUppers f table us' → AreLowers f table ls' → us ≡ us' → ls ≡ ls'
-    → IsPrepared bits v f m None table us ls
-prepared_from bits w v u f m table us ls us' ls' v_is u_is f_is word stable most directions small uppers lowers us_is ls_is =
+    → s ≡ u → IsPrepared bits v f s m None table us ls
+prepared_from bits w v u f s m table us ls us' ls' v_is u_is f_is word stable most directions small uppers lowers us_is ls_is sums_are =
     let same : f ≡ v = f_is ∙ u_is ∙ sym v_is in
     record {
       word = subst IsWord (u_is ∙ sym v_is) word;
       stable = subst IsStable (sym v_is) stable;
       same_word = same;
+      same_sums = sums_are ∙ u_is ∙ sym v_is;
       most = subst (λ x. IsMost x m) same most;
       directions = subst (λ x. IsTableOf x table) same directions;
       small = small;

@@ -56,10 +56,11 @@ abbrev pub AreLowers : List ℕ → List SineLow → List ℤ → Type 0
 AreLowers w table numbers = IsTable (λ i z. IsNumberOf w table (λ v. lower_height v w (i + 1)) z) (length w) numbers
 
 -- what a `Prepared` keeps of its word
-pub record IsPrepared (bits : ℕ) (w u : List ℕ) (m : Most) (p : Option (Written × Written)) (table : List SineLow) (us ls : List ℤ) : Type 0 where
+pub record IsPrepared (bits : ℕ) (w u s : List ℕ) (m : Most) (p : Option (Written × Written)) (table : List SineLow) (us ls : List ℤ) : Type 0 where
   pub word : IsWord w
   pub stable : IsStable w
   pub same_word : u ≡ w
+  pub same_sums : s ≡ w
   pub most : IsMost w m
   pub directions : IsTableOf w table
   pub small : All IsSmallEntry table

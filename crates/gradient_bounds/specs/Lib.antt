@@ -9,3 +9,4 @@ pub mod Decision
 pub mod Faults
 pub mod Laws
 pub mod Table
+pub mod HeightNumbers

@@ -1,11 +1,10 @@
-//! Where the directions of heights stand in the table.
+//! Where the directions of forms stand in the table.
 
 use crate::sine_low::SineLow;
-use defining_functions::Functions;
-use exp_sums::{Dir, Term};
+use exp_sums::{Dir, ExpSum, Term};
 use std::alloc::{AllocError as OutOfMemory, Global};
 
-/// For each height of one side, where the directions of its terms stand in the table.
+/// For each form, where the directions of its terms stand in the table.
 ///
 /// Each place is tried where it is used, so nothing rests on it but how fast an entry is found.
 #[derive(Drop)]
@@ -14,37 +13,19 @@ pub struct Places {
 }
 
 impl Places {
-    /// Those of the upper heights.
-    pub fn of_uppers(
-        alloc: Global,
-        functions: &Functions,
-        table: &[SineLow],
-    ) -> Result<Places, OutOfMemory> {
+    /// Those of the forms.
+    pub fn of(alloc: Global, forms: &[ExpSum], table: &[SineLow]) -> Result<Places, OutOfMemory> {
         let mut rows = Vec::new(alloc);
-        for i in 0..functions.letters() {
-            let row = places_of(alloc, functions.upper_height(i + 1).terms(), table)?;
+        for form in forms {
+            let row = places_of(alloc, form.terms(), table)?;
             rows.push(row)?;
         }
         Ok(Places { rows })
     }
 
-    /// Those of the lower heights.
-    pub fn of_lowers(
-        alloc: Global,
-        functions: &Functions,
-        table: &[SineLow],
-    ) -> Result<Places, OutOfMemory> {
-        let mut rows = Vec::new(alloc);
-        for i in 0..functions.letters() {
-            let row = places_of(alloc, functions.lower_height(i + 1).terms(), table)?;
-            rows.push(row)?;
-        }
-        Ok(Places { rows })
-    }
-
-    /// Those of the height of the edge i + 1.
-    pub fn row(&self, i: u32) -> &[usize] {
-        match self.rows.get(i as usize) {
+    /// Those of the i-th form, counted from 0.
+    pub fn row(&self, i: usize) -> &[usize] {
+        match self.rows.get(i) {
             Some(row) => row.as_slice(),
             None => &[],
         }
