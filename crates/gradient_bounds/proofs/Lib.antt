@@ -16,3 +16,4 @@ pub mod Numbering
 pub mod Tested
 pub mod Tests
 pub mod Stepping
+pub mod Placing

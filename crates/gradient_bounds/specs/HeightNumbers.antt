@@ -1,13 +1,10 @@
 -- The numbers of heights by few forms: each follows from that of the edge's other end, or of the edge before, by the numbers of two forms.
 
 use Rattle.std.specs.Prelude.{◌≡◌, ℕ, ◌+◌, ◌^◌, ◌≤◌, List, length, slice_index_or, ℤ, ◌+ℤ◌, unsigned_abs}
-use Rattle.edge_words.specs.Word.{IsWord}
 use Rattle.exp_sums.specs.FormalPoint.{FormalPoint}
 use Rattle.unfolding.specs.Shift.{IsShift}
 use Rattle.defining_functions.specs.Heights.{upper_height, lower_height}
-use Rattle.defining_functions.specs.Steps.{AreSteps}
 use Rattle.defining_functions.specs.Tables.{IsTable}
-use Rattle.defining_functions.specs.declared.step.Step.{Step}
 use Rattle.gradient_bounds.specs.declared.end_numbers.EndNumbers.{EndNumbers}
 use Rattle.gradient_bounds.specs.declared.sine_low.SineLow.{SineLow}
 use Rattle.gradient_bounds.specs.Kept.{IsNumberOf}
@@ -30,8 +27,3 @@ pub record IsWayNumber (w : List ℕ) (table : List SineLow) (i : ℕ) (z : ℤ)
 pub record AreEndNumbers (w : List ℕ) (table : List SineLow) (k : ℕ) (e : EndNumbers) : Type 0 where
   pub upper : IsNumberOf w table (λ v. upper_height v w k) e.upper
   pub lower : IsNumberOf w table (λ v. lower_height v w k) e.lower
-
--- what a `HeightSums` keeps: the steps of its word, and room for a number for each form
-pub record IsHeightSums (w : List ℕ) (forms : List FormalPoint) (steps : List Step) (numbers : List ℤ) : Type 0 where
-  pub each : AreSteps w (length w) forms steps
-  pub room : length numbers ≡ length forms

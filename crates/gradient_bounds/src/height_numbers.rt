@@ -12,6 +12,7 @@ ghost use Rattle.defining_functions.specs.Heights.{lower_height};
 ghost use Rattle.defining_functions.specs.Kept.{AreWithinLimits};
 ghost use Rattle.defining_functions.specs.Steps.{SharesEnd, AreSteps};
 ghost use Rattle.gradient_bounds.specs.HeightNumbers.{AreFormNumbers, IsWayNumber, AreEndNumbers};
+ghost use Rattle.gradient_bounds.specs.HeightSums.{IsPlaceOf, ArePlacesOf, AreRowsOf, dirs_of};
 ghost use Rattle.gradient_bounds.specs.Table.{IsRising, low_in};
 ghost use Rattle.gradient_bounds.specs.Kept.{IsSmallEntry, IsNumberOf, AreUppers, AreLowers};
 
@@ -34,46 +35,61 @@ fn low_of(table: &[SineLow], dir: Dir) -> i128
     0
 }
 
-/// The same, where the entry is looked for at `place` first.
-fn low_at(table: &[SineLow], place: usize, dir: Dir) -> i128
+/// The same, where the direction's place in the table is known.
+fn low_at(table: &[SineLow], place: usize, dir: Dir) -> i64
     requires rising { IsRising table.now }
     requires small { All IsSmallEntry table.now }
+    requires place { IsPlaceOf (dirs_of table.now) dir place }
     ensures { result ≡ low_in table.now dir }
 {
-    if place < table.len() && table[place].dir == dir {
-        return table[place].low;
+    match table.get(place) {
+        Some(entry) => entry.low as i64,
+        None => 0,
     }
-    low_of(table, dir)
 }
 
-/// The sum, over the terms, of the coefficient times the table's number of the direction. The entries are looked for at
-/// `places` first.
-fn number_of(terms: &[Term], places: &[usize], table: &[SineLow]) -> i128
-    requires rising { IsRising table.now }
+/// The sum, over the terms, of the coefficient times the table's number of the direction.
+fn number_of(terms: &[Term], table: &[SineLow]) -> i128
     requires light { terms_weight terms.now ≤ 16384 }
     requires small { All IsSmallEntry table.now }
     ensures is { result ≡ weigh_terms ℤ_ring ℤ_image (low_in table.now) terms.now }
     ensures size { unsigned_abs result ≤ 2 ^ 76 }
 {
     let mut total = 0;
-    let mut places = places.iter();
     for term in terms {
-        let place = places.next().copied().unwrap_or(0);
-        total += i128::from(term.c) * low_at(table, place, term.dir);
+        total += i128::from(term.c) * low_of(table, term.dir);
     }
     total
 }
 
-/// Computes the numbers of forms. The entries are looked for at `places` first.
+/// The same, where the directions' places in the table are known.
+fn number_at(terms: &[Term], places: &[usize], table: &[SineLow]) -> i128
+    requires rising { IsRising table.now }
+    requires light { terms_weight terms.now ≤ 16384 }
+    requires small { All IsSmallEntry table.now }
+    requires places { ArePlacesOf (dirs_of table.now) terms.now places.now }
+    ensures is { result ≡ weigh_terms ℤ_ring ℤ_image (low_in table.now) terms.now }
+    ensures size { unsigned_abs result ≤ 2 ^ 76 }
+{
+    let mut total = 0;
+    for (i, term) in terms.iter().enumerate() {
+        let low = low_at(table, places[i], term.dir);
+        total += i128::from(term.c) * i128::from(low);
+    }
+    total
+}
+
+/// Computes the numbers of forms, where the places of their terms' directions in the table are known.
 pub fn number_forms(numbers: &mut [i128], forms: &[ExpSum], places: &Places, table: &[SineLow])
     requires rising { IsRising table.now }
     requires small { All IsSmallEntry table.now }
     requires limits { AreWithinLimits forms.now }
+    requires places { AreRowsOf (dirs_of table.now) forms.now places.now.rows.items }
     requires count { length numbers.old ≡ length forms.now }
     ensures { AreFormNumbers table.now forms.now numbers.new }
 {
     for (i, form) in forms.iter().enumerate() {
-        numbers[i] = number_of(form.terms(), places.row(i), table);
+        numbers[i] = number_at(form.terms(), &places.rows[i], table);
     }
 }
 
@@ -101,7 +117,7 @@ fn lower_number(
     match shared {
         SharedEnd::Lower => before.lower,
         SharedEnd::Upper => before.upper - way,
-        SharedEnd::Neither => number_of(functions.lower_height(i + 1).terms(), &[], table),
+        SharedEnd::Neither => number_of(functions.lower_height(i + 1).terms(), table),
     }
 }
 

@@ -3,7 +3,9 @@ use Rattle.std.proofs.lemmas.List.{take_at, length-map}
 use Rattle.std.specs.List.{All}
 use Rattle.gradient_bounds.specs.declared.sine_low.SineLow.{SineLow}
 use Rattle.gradient_bounds.specs.Table.{IsRising, IsTableOf, IsLowAt}
+use Rattle.gradient_bounds.specs.HeightSums.{IsHeightSums, dirs_of}
 use Rattle.gradient_bounds.specs.Kept.{IsSmallEntry, AreUppers, AreLowers}
+use Rattle.gradient_bounds.proofs.Placing.{count_of_dirs}
 use Rattle.gradient_bounds.proofs.Tests.{same_table, filled_again}
 use Rattle.gradient_bounds.proofs.prepared.Prepared.fill.Goals as goal
 
@@ -36,6 +38,16 @@ number-requires-clause-small g c =
     (c.fill.ensures.directions ∙ ap (λ (es : List SineLow). map (λ (e : SineLow). e.dir) es) c.deref_mut.ensures.value)
     (sym i.table.ok.0) c.fill.ensures.small c.deref.ensures.value
 
+pub number-requires-clause-sums : goal.number-requires-clause-sums
+number-requires-clause-sums g c =
+    let i = c.self.inside in
+    let same : dirs_of c.fill.new.table ≡ dirs_of i.table.items = c.fill.ensures.directions ∙ ap dirs_of c.deref_mut.ensures.value in
+    let len : length c.fill.new.table ≡ i.table.len =
+    omega (arith, sym (count_of_dirs c.fill.new.table), ap length same, count_of_dirs i.table.items, i.table.ok.0) in
+    let table_is = take_at c.fill.new.table (drop (length c.fill.new.table) i.table.items) i.table.len len in
+    subst₂ (λ f dirs. IsHeightSums f dirs i.sums) (sym c.self.invariant.same_word) (sym same ∙ sym (ap dirs_of (c.deref.ensures.value ∙ table_is)))
+    c.self.invariant.sums
+
 pub invariant_of-self : goal.invariant_of-self
 invariant_of-self g c =
     let i = c.self.inside in
@@ -64,4 +76,5 @@ invariant_of-self g c =
     c.fill.ensures.small
     (subst (λ es. AreUppers i.functions es c.number.new.uppers) (c.deref.ensures.value ∙ table_is) c.number.ensures.uppers)
     (subst (λ es. AreLowers i.functions es c.number.new.lowers) (c.deref.ensures.value ∙ table_is) c.number.ensures.lowers)
-    table_is us_is ls_is c.number.ensures.word
+    table_is us_is ls_is
+    (subst (λ es. IsHeightSums i.functions (dirs_of es) c.number.new.self) (c.deref.ensures.value ∙ table_is) c.number.ensures.sums)

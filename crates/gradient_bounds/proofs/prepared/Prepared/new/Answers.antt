@@ -1,10 +1,11 @@
-use Rattle.std.proofs.Common.{◌≡◌, ◌∙◌, sym, ap, subst, length, drop, arith}
+use Rattle.std.proofs.Common.{◌≡◌, ◌∙◌, sym, ap, subst, subst₂, length, drop, arith}
 use Rattle.std.specs.List.{All}
 use Rattle.std.specs.Prelude.{Err}
 use Rattle.std.proofs.lemmas.List.{take_at}
 use Rattle.std.proofs.lemmas.Result.{err_from_is_err_and}
 use Rattle.edge_words.specs.Stable.{IsStable}
 use Rattle.edge_words.specs.Word.{IsWord}
+use Rattle.gradient_bounds.specs.HeightSums.{IsHeightSums, dirs_of}
 use Rattle.gradient_bounds.specs.Kept.{IsSmallEntry, AreUppers, AreLowers}
 use Rattle.gradient_bounds.proofs.Refusals.{refused_by_memory, refused_by_functions, not_refused}
 use Rattle.gradient_bounds.proofs.Tests.{prepared_from}
@@ -53,6 +54,11 @@ returns-in_err-lowers-clause-unstable g c =
 pub number-requires-clause-small : goal.number-requires-clause-small
 number-requires-clause-small g c = subst (All IsSmallEntry) (sym c.deref-2.ensures.value) c.in_ok-table.ensures.small
 
+pub number-requires-clause-sums : goal.number-requires-clause-sums
+number-requires-clause-sums g c =
+    subst₂ (λ f es. IsHeightSums f (dirs_of es) c.in_ok-sums.sums) (sym c.in_ok-functions.ensures.word) (c.deref.ensures.value ∙ sym c.deref-2.ensures.value)
+    c.in_ok-sums.ensures.sums
+
 pub invariant_of-result : goal.invariant_of-result
 invariant_of-result g c =
     let w = c.args.word.now in
@@ -71,7 +77,7 @@ invariant_of-result g c =
     (subst (λ es. AreLowers f es c.number.new.lowers) c.deref-2.ensures.value c.number.ensures.lowers)
     (take_at c.number.new.uppers (drop (length c.number.new.uppers) uppers.items) uppers.len us_len)
     (take_at c.number.new.lowers (drop (length c.number.new.lowers) lowers.items) lowers.len ls_len)
-    (c.number.ensures.word ∙ c.in_ok-sums.ensures.word)
+    (subst (λ es. IsHeightSums f (dirs_of es) c.number.new.self) c.deref-2.ensures.value c.number.ensures.sums)
 
 pub returns-clause-stable : goal.returns-clause-stable
 returns-clause-stable g c =
