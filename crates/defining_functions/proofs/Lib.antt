@@ -5,3 +5,4 @@ pub mod SideSteps
 pub mod Sizes
 pub mod Kept
 pub mod Edges
+pub mod Steps

@@ -58,7 +58,7 @@ pub light_product : (p q : FormalPoint) → weight p ≤ 128 → weight q ≤ 12
 light_product p q h k = omega (arith, mul-le-mul_left (weight p) k, mul-le-mul_right 128 h)
 
 -- the sine form of a small point times a way between two corners
-form_limits : (t way : FormalPoint) → IsSmall t → weight way ≤ 128 → IsWithin 65 way → IsWithinFunctionLimits (sine_form (t *ₚ way))
+pub form_limits : (t way : FormalPoint) → IsSmall t → weight way ≤ 128 → IsWithin 65 way → IsWithinFunctionLimits (sine_form (t *ₚ way))
 form_limits t way small apart near =
     let within : IsWithin 130 (sine_form (t *ₚ way)) = IsWithin-sine_form 130 (t *ₚ way) (IsWithin-*ₚ 65 65 t way small.within near) in
     record {

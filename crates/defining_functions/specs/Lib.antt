@@ -5,3 +5,5 @@ pub mod Sizes
 pub mod Edges
 pub mod Tables
 pub mod Kept
+pub mod Steps
+pub mod Chords

@@ -7,17 +7,25 @@
 //! the functions are, within the stated limits. The module [`laws`] says how they hang together.
 #![tactic(auto)]
 
+mod chord;
 mod fault;
 mod first_edges;
+mod form;
 mod functions;
 mod height;
+mod height_steps;
 pub mod laws;
+mod shared_end;
 mod side;
 mod sides;
 mod size_row;
 mod size_table;
+mod step;
 #[cfg(test)]
 mod tests;
 
 pub use fault::FunctionsFault;
 pub use functions::Functions;
+pub use height_steps::HeightSteps;
+pub use shared_end::SharedEnd;
+pub use step::Step;

@@ -1,4 +1,4 @@
-use crate::{Functions, FunctionsFault};
+use crate::{Functions, FunctionsFault, HeightSteps, SharedEnd};
 use edge_words::Word;
 use exp_sums::{Dir, Sizes, Term};
 use std::test::Fail;
@@ -153,5 +153,27 @@ fn keeps_sizes_of_123123(rt: HostRuntime) -> Result<(), Fail> {
             .greatest_in_row(1)
             .is_some_and(|row| row.weight == 15)
     );
+    Ok(())
+}
+
+// From the centres of its triangles the ends of the edges of 123123 are seen in seven directions: (-1, -1), and in turn
+// (1, -1), (-1, -3), (-3, -3), (-3, -1), (-1, 1) and (1, 1). Four forms are not alike.
+#[test]
+fn steps_of_123123(rt: HostRuntime) -> Result<(), Fail> {
+    let word = Word::read(rt.alloc(), b"123123")?;
+    let unfolding = Unfolding::of(rt.alloc(), &word)?;
+    let steps = HeightSteps::of(rt.alloc(), &unfolding)?;
+    assert_eq!(rt; (steps.forms.len(), steps.steps.len()), (4, 6));
+    let shared = [
+        SharedEnd::Neither,
+        SharedEnd::Upper,
+        SharedEnd::Lower,
+        SharedEnd::Upper,
+        SharedEnd::Lower,
+        SharedEnd::Upper,
+    ];
+    for (i, end) in shared.iter().enumerate() {
+        assert!(rt; steps.steps[i].shared == *end);
+    }
     Ok(())
 }

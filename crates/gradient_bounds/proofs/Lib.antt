@@ -16,3 +16,5 @@ pub mod Marks
 pub mod Numbering
 pub mod Tested
 pub mod Tests
+pub mod Stepping
+pub mod Placing

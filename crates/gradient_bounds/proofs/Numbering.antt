@@ -18,7 +18,7 @@ use Rattle.gradient_bounds.specs.Kept.{IsNumberOf, AreUppers, AreLowers}
 use Rattle.gradient_bounds.proofs.Sums.{number_difference}
 
 -- one more entry of a table is written
-table_step : {A : Type 0} (E : ℕ → A → Type 0) (xs : List A) (i : ℕ) (x : A) → i < length xs → ((j : ℕ) (d : A) → j < i → E j (get_or xs j d)) → E i x
+pub table_step : {A : Type 0} (E : ℕ → A → Type 0) (xs : List A) (i : ℕ) (x : A) → i < length xs → ((j : ℕ) (d : A) → j < i → E j (get_or xs j d)) → E i x
     → (j : ℕ) (d : A) → j < i + 1 → E j (get_or (set xs i x) j d)
 table_step E xs i x below before here j d h =
     below_more (λ k. E k (get_or (set xs i x) k d)) i

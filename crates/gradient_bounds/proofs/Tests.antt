@@ -29,17 +29,20 @@ use Rattle.rational_polygon.specs.Square.{Square, IsBox}
 use Rattle.directed_fixed.specs.Ends.{Ends, Encloses}
 use Rattle.defining_functions.specs.Functions.{defining_function}
 use Rattle.defining_functions.specs.Heights.{upper_height, lower_height}
+use Rattle.gradient_bounds.specs.declared.height_sums.HeightSums.{HeightSums}
 use Rattle.gradient_bounds.specs.declared.neighbourhood.Neighbourhood.{Neighbourhood}
 use Rattle.gradient_bounds.specs.declared.sine_low.SineLow.{SineLow}
 use Rattle.gradient_bounds.specs.Clear.{slack}
 use Rattle.gradient_bounds.specs.Corridor.{EachFunction, SomeFunction}
 use Rattle.gradient_bounds.specs.Decision.{AreNumbers, needed, EachReaches, SomeFallsBelow}
 use Rattle.gradient_bounds.specs.Kept.{IsFilledAt, IsSmallEntry, IsNumberOf, AreUppers, AreLowers, IsPrepared}
+use Rattle.gradient_bounds.specs.HeightSums.{IsHeightSums, dirs_of}
 use Rattle.gradient_bounds.specs.Neighbourhood.{IsNeighbourhood, ball_of, IsClearIn, IsShutIn}
 use Rattle.gradient_bounds.specs.Table.{PreparedWord, IsDirOfHeight, IsTableOf, IsLowAt, number_in, bounds_in, centre_of, LowerEndReaches, UpperEndFalls}
 use Rattle.gradient_bounds.proofs.EachFunction.{has_shift}
 use Rattle.gradient_bounds.proofs.Numbering.{are_numbers, number_at}
 use Rattle.gradient_bounds.proofs.Numbers.{IsScale}
+use Rattle.gradient_bounds.proofs.Stepping.{difference_fits}
 use Rattle.gradient_bounds.proofs.Sums.{any_at, IsListed, number_difference, upper_listed, lower_listed, function_listed, bounds_hold}
 use Rattle.gradient_bounds.proofs.Tested.{IsTested, IsDriftIn, each_decided, each_clear, clear_each, some_decided, some_shut, shut_some}
 
@@ -70,14 +73,14 @@ module _ (w : List ℕ) (old new : List SineLow) (same : map (λ (e : SineLow). 
         ∙ ap (λ (e : SineLow). e.dir) any.3 ∙ any.4);
   }
 
-pub filled_again : (bits : ℕ) (w u : List ℕ) (p : Option (Written × Written)) (table new table' : List SineLow)
+pub filled_again : (bits : ℕ) (w u : List ℕ) (s s' : HeightSums) (p : Option (Written × Written)) (table new table' : List SineLow)
     (us ls us' ls' us'' ls'' : List ℤ) (x y : Written)
-    → IsPrepared bits w u p table us ls → map (λ (e : SineLow). e.dir) new ≡ map (λ (e : SineLow). e.dir) table → All (IsLowAt bits (value x) (value y)) new
+    → IsPrepared bits w u s p table us ls → map (λ (e : SineLow). e.dir) new ≡ map (λ (e : SineLow). e.dir) table → All (IsLowAt bits (value x) (value y)) new
     → All IsSmallEntry new → AreUppers u new us' → AreLowers u new ls' → table' ≡ new → us'' ≡ us' → ls'' ≡ ls'
-    → IsPrepared bits w u (Some (x, y)) table' us'' ls''
-filled_again bits w u p table new table' us ls us' ls' us'' ls'' x y h same lows small uppers lowers table_is us_is ls_is =
-    subst (λ es. IsPrepared bits w u (Some (x, y)) es us'' ls'') (sym table_is)
-    (subst₂ (λ a b. IsPrepared bits w u (Some (x, y)) new a b) (sym us_is) (sym ls_is) (record {
+    → IsHeightSums u (dirs_of new) s' → IsPrepared bits w u s' (Some (x, y)) table' us'' ls''
+filled_again bits w u s s' p table new table' us ls us' ls' us'' ls'' x y h same lows small uppers lowers table_is us_is ls_is sums =
+    subst (λ es. IsPrepared bits w u s' (Some (x, y)) es us'' ls'') (sym table_is)
+    (subst₂ (λ a b. IsPrepared bits w u s' (Some (x, y)) new a b) (sym us_is) (sym ls_is) (record {
       word = h.word;
       stable = h.stable;
       same_word = h.same_word;
@@ -86,6 +89,7 @@ filled_again bits w u p table new table' us ls us' ls' us'' ls'' x y h same lows
       filled = lows;
       uppers = subst (λ v. AreUppers v new us') h.same_word uppers;
       lowers = subst (λ v. AreLowers v new ls') h.same_word lowers;
+      sums = subst (λ v. IsHeightSums v (dirs_of new) s') h.same_word sums;
     }))
 
 -- ---- the table as it was filled
@@ -129,8 +133,8 @@ pub record IsSomeTest (bits low high : ℕ) (pi : ℤ) (u : List ℕ) (us ls : L
   pub shut : SomeFallsBelow (needed bits low pi r) u us ls → SomeFunction now.word (IsShutIn (ball_of r) (slack low))
   pub found : SomeFunction now.word (IsShutIn (ball_of r) (slack high)) → SomeFallsBelow (needed bits low pi r) u us ls
 
-module _ (bits low high : ℕ) (L H : ℤ) (scale : IsScale bits low high L H) (w u : List ℕ) (p : Option (Written × Written)) (table : List SineLow)
-    (us ls us' ls' : List ℤ) (h : IsPrepared bits w u p table us ls) (us_is : us' ≡ us) (ls_is : ls' ≡ ls) where
+module _ (bits low high : ℕ) (L H : ℤ) (scale : IsScale bits low high L H) (w u : List ℕ) {s : HeightSums} (p : Option (Written × Written)) (table : List SineLow)
+    (us ls us' ls' : List ℤ) (h : IsPrepared bits w u s p table us ls) (us_is : us' ≡ us) (ls_is : ls' ≡ ls) where
   tested : IsTested w table us ls
   tested = record { word = h.word; stable = h.stable; directions = h.directions; uppers = h.uppers; lowers = h.lowers }
 
@@ -227,8 +231,8 @@ pub record IsBound (bits : ℕ) (now : PreparedWord) (form : List ℕ → Formal
       → IfSome now.point (λ q. (v : FormalPoint) → IsShift now.word v → FromSomeOn (λ n. Encloses bits r (value_at n (form now.word v) (value q.0)
       (value q.1))))
 
-module _ (bits : ℕ) (w u : List ℕ) (p : Option (Written × Written)) (table : List SineLow) (us ls : List ℤ)
-    (h : IsPrepared bits w u p table us ls)
+module _ (bits : ℕ) (w u : List ℕ) {s : HeightSums} (p : Option (Written × Written)) (table : List SineLow) (us ls : List ℤ)
+    (h : IsPrepared bits w u s p table us ls)
     (now : PreparedWord) (view : ◌≡◌ {A = PreparedWord} (record { word = w; point = p; table = table }) now) where
   bound_of : (form : List ℕ → FormalPoint → FormalPoint) (c z : ℤ) → ((v : FormalPoint) → IsShift w v → IsListed table (form w v)) → unsigned_abs c ≤ 2 ^ 80
       → ((v : FormalPoint) → IsShift w v → c ≡ number_in table (form w v)) → ((v : FormalPoint) → IsShift u v → z ≡ pos (weight (form u v))) → z ≤ℤ pos 16384
@@ -273,6 +277,22 @@ module _ (bits : ℕ) (w u : List ℕ) (p : Option (Written × Written)) (table 
       subst (λ j. IsNumberOf w table (λ v. lower_height v w j) b) back
       (subst (IsNumberOf w table (λ v. lower_height v w (l - 1 + 1))) (sym b_is) (number_at w table (λ i v. lower_height v w (i + 1)) ls h.lowers l b place))
 
+  -- two numbers and their difference fit
+  pub record FitTogether (a b : ℤ) : Type 0 where
+    pub upper : FitsSigned w128 a
+    pub lower : FitsSigned w128 b
+    pub difference : FitsSigned w128 (a -ℤ b)
+
+  pub fit_together : (k l : ℕ) (a b : ℤ) → IsPlace now.word k → IsPlace now.word l → a ≡ get_or us (k - 1) a → b ≡ get_or ls (l - 1) b → FitTogether a b
+  fit_together k l a b p q a_is b_is =
+      let upper = upper_number k a (place_in k p) a_is in
+      let lower = lower_number l b (place_in l q) b_is in
+      record {
+        upper = fits_signed_from_abs w128 a (omega (arith, upper.small));
+        lower = fits_signed_from_abs w128 b (omega (arith, lower.small));
+        difference = difference_fits a b (omega (arith, upper.small)) (omega (arith, lower.small));
+      }
+
   -- what is said of two numbers
   pub record IsPair (k l : ℕ) (a b z : ℤ) : Type 0 where
     pub upper_fits : FitsSigned w128 a
@@ -316,10 +336,10 @@ module _ (bits : ℕ) (w u : List ℕ) (p : Option (Written × Written)) (table 
 
 -- ---- a new one
 
-pub prepared_from : (bits : ℕ) (w v u f : List ℕ) (table : List SineLow) (us ls us' ls' : List ℤ) → v ≡ w → u ≡ w → f ≡ u → IsWord u → IsStable w
+pub prepared_from : (bits : ℕ) (w v u f : List ℕ) (s : HeightSums) (table : List SineLow) (us ls us' ls' : List ℤ) → v ≡ w → u ≡ w → f ≡ u → IsWord u → IsStable w
     → IsTableOf f table → All IsSmallEntry table → AreUppers f table us' → AreLowers f table ls' → us ≡ us' → ls ≡ ls'
-    → IsPrepared bits v f None table us ls
-prepared_from bits w v u f table us ls us' ls' v_is u_is f_is word stable directions small uppers lowers us_is ls_is =
+    → IsHeightSums f (dirs_of table) s → IsPrepared bits v f s None table us ls
+prepared_from bits w v u f s table us ls us' ls' v_is u_is f_is word stable directions small uppers lowers us_is ls_is sums =
     let same : f ≡ v = f_is ∙ u_is ∙ sym v_is in
     record {
       word = subst IsWord (u_is ∙ sym v_is) word;
@@ -330,4 +350,5 @@ prepared_from bits w v u f table us ls us' ls' v_is u_is f_is word stable direct
       filled = tt;
       uppers = subst₂ (λ x a. AreUppers x table a) same (sym us_is) uppers;
       lowers = subst₂ (λ x a. AreLowers x table a) same (sym ls_is) lowers;
+      sums = subst (λ x. IsHeightSums x (dirs_of table) s) same sums;
     }

@@ -14,7 +14,9 @@ use Rattle.exp_sums.specs.Limits.{IsNear}
 use Rattle.unfolding.specs.Shift.{IsShift}
 use Rattle.defining_functions.specs.Heights.{upper_height, lower_height}
 use Rattle.defining_functions.specs.Tables.{IsTable}
+use Rattle.gradient_bounds.specs.declared.height_sums.HeightSums.{HeightSums}
 use Rattle.gradient_bounds.specs.declared.sine_low.SineLow.{SineLow}
+use Rattle.gradient_bounds.specs.HeightSums.{IsHeightSums, dirs_of}
 use Rattle.gradient_bounds.specs.Table.{IsTableOf, IsLowAt, number_in}
 
 -- the table was filled at the point, if at any
@@ -54,7 +56,7 @@ abbrev pub AreLowers : List ℕ → List SineLow → List ℤ → Type 0
 AreLowers w table numbers = IsTable (λ i z. IsNumberOf w table (λ v. lower_height v w (i + 1)) z) (length w) numbers
 
 -- what a `Prepared` keeps of its word
-pub record IsPrepared (bits : ℕ) (w u : List ℕ) (p : Option (Written × Written)) (table : List SineLow) (us ls : List ℤ) : Type 0 where
+pub record IsPrepared (bits : ℕ) (w u : List ℕ) (s : HeightSums) (p : Option (Written × Written)) (table : List SineLow) (us ls : List ℤ) : Type 0 where
   pub word : IsWord w
   pub stable : IsStable w
   pub same_word : u ≡ w
@@ -63,3 +65,4 @@ pub record IsPrepared (bits : ℕ) (w u : List ℕ) (p : Option (Written × Writ
   pub filled : IsFilledAt bits p table
   pub uppers : AreUppers w table us
   pub lowers : AreLowers w table ls
+  pub sums : IsHeightSums w (dirs_of table) s

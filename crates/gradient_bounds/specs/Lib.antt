@@ -8,3 +8,5 @@ pub mod Decision
 pub mod Faults
 pub mod Laws
 pub mod Table
+pub mod HeightSums
+pub mod HeightNumbers

@@ -1,16 +1,26 @@
 //! The numbers of heights by a table of sines.
-ghost use Rattle.std.specs.Prelude.{◌≡◌, ◌*◌, ◌^◌, ◌≤◌, length, IfOk, unsigned_abs};
+ghost use Rattle.std.specs.Prelude.{◌≡◌, ◌+◌, ◌*◌, ◌^◌, ◌<◌, ◌≤◌, List, length, IfOk, unsigned_abs};
 ghost use Rattle.std.specs.List.{All};
 ghost use Rattle.ring_solver.specs.Whole.{ℤ_ring, ℤ_image};
+ghost use Rattle.edge_words.specs.Letters.{IsPlace};
+ghost use Rattle.edge_words.specs.Word.{IsWord};
+ghost use Rattle.exp_sums.specs.FormalPoint.{FormalPoint};
 ghost use Rattle.exp_sums.specs.Limits.{terms_weight};
 ghost use Rattle.exp_sums.specs.Weigh.{weigh_terms};
+ghost use Rattle.unfolding.specs.Shift.{HasShift};
+ghost use Rattle.defining_functions.specs.Heights.{lower_height};
+ghost use Rattle.defining_functions.specs.Kept.{AreWithinLimits};
+ghost use Rattle.defining_functions.specs.Steps.{SharesEnd, AreSteps};
+ghost use Rattle.gradient_bounds.specs.HeightNumbers.{AreFormNumbers, IsWayNumber, AreEndNumbers};
+ghost use Rattle.gradient_bounds.specs.HeightSums.{IsPlaceOf, ArePlacesOf, AreRowsOf, dirs_of};
 ghost use Rattle.gradient_bounds.specs.Table.{IsRising, low_in};
-ghost use Rattle.gradient_bounds.specs.Kept.{IsSmallEntry, AreUppers, AreLowers};
+ghost use Rattle.gradient_bounds.specs.Kept.{IsSmallEntry, IsNumberOf, AreUppers, AreLowers};
 
+use crate::end_numbers::EndNumbers;
 use crate::places::Places;
 use crate::sine_low::SineLow;
-use defining_functions::Functions;
-use exp_sums::{Dir, Term};
+use defining_functions::{Functions, SharedEnd, Step};
+use exp_sums::{Dir, ExpSum, Term};
 use std::alloc::{AllocError as OutOfMemory, Global};
 
 /// The number of the table's entry for a direction, 0 where there is none.
@@ -25,80 +35,149 @@ fn low_of(table: &[SineLow], dir: Dir) -> i128
     0
 }
 
-/// The same, where the entry is looked for at `place` first.
-fn low_at(table: &[SineLow], place: usize, dir: Dir) -> i128
+/// The same, where the direction's place in the table is known.
+fn low_at(table: &[SineLow], place: usize, dir: Dir) -> i64
     requires rising { IsRising table.now }
     requires small { All IsSmallEntry table.now }
+    requires place { IsPlaceOf (dirs_of table.now) dir place }
     ensures { result ≡ low_in table.now dir }
 {
-    if place < table.len() && table[place].dir == dir {
-        return table[place].low;
+    match table.get(place) {
+        Some(entry) => entry.low as i64,
+        None => 0,
     }
-    low_of(table, dir)
 }
 
-/// The sum, over the terms, of the coefficient times the table's number of the direction. The entries are looked for at
-/// `places` first.
-fn number_of(terms: &[Term], places: &[usize], table: &[SineLow]) -> i128
-    requires rising { IsRising table.now }
+/// The sum, over the terms, of the coefficient times the table's number of the direction.
+fn number_of(terms: &[Term], table: &[SineLow]) -> i128
     requires light { terms_weight terms.now ≤ 16384 }
     requires small { All IsSmallEntry table.now }
     ensures is { result ≡ weigh_terms ℤ_ring ℤ_image (low_in table.now) terms.now }
     ensures size { unsigned_abs result ≤ 2 ^ 76 }
 {
     let mut total = 0;
-    let mut places = places.iter();
     for term in terms {
-        let place = places.next().copied().unwrap_or(0);
-        total += i128::from(term.c) * low_at(table, place, term.dir);
+        total += i128::from(term.c) * low_of(table, term.dir);
     }
     total
 }
 
-/// Computes the numbers of the upper heights.
-pub fn number_uppers(
-    numbers: &mut [i128],
-    functions: &Functions,
-    places: &Places,
-    table: &[SineLow],
-)
+/// The same, where the directions' places in the table are known.
+fn number_at(terms: &[Term], places: &[usize], table: &[SineLow]) -> i128
     requires rising { IsRising table.now }
-    requires count { length numbers.old ≡ length functions.now }
+    requires light { terms_weight terms.now ≤ 16384 }
     requires small { All IsSmallEntry table.now }
-    ensures { AreUppers functions.now table.now numbers.new }
+    requires places { ArePlacesOf (dirs_of table.now) terms.now places.now }
+    ensures is { result ≡ weigh_terms ℤ_ring ℤ_image (low_in table.now) terms.now }
+    ensures size { unsigned_abs result ≤ 2 ^ 76 }
 {
-    for i in 0..functions.letters() {
-        numbers[i as usize] = number_of(
-            functions.upper_height(i + 1).terms(),
-            places.row(i),
-            table,
-        );
+    let mut total = 0;
+    for (i, term) in terms.iter().enumerate() {
+        let low = low_at(table, places[i], term.dir);
+        total += i128::from(term.c) * i128::from(low);
+    }
+    total
+}
+
+/// Computes the numbers of forms, where the places of their terms' directions in the table are known.
+pub fn number_forms(numbers: &mut [i128], forms: &[ExpSum], places: &Places, table: &[SineLow])
+    requires rising { IsRising table.now }
+    requires small { All IsSmallEntry table.now }
+    requires limits { AreWithinLimits forms.now }
+    requires places { AreRowsOf (dirs_of table.now) forms.now places.now.rows.items }
+    requires count { length numbers.old ≡ length forms.now }
+    ensures { AreFormNumbers table.now forms.now numbers.new }
+{
+    for (i, form) in forms.iter().enumerate() {
+        numbers[i] = number_at(form.terms(), &places.rows[i], table);
     }
 }
 
-/// Computes the numbers of the lower heights.
-pub fn number_lowers(
-    numbers: &mut [i128],
+/// The number of the lower height of the edge i + 1, where `way` is what the upper one has more: by the end that it
+/// shares with the edge before, or else by its own terms.
+fn lower_number(
     functions: &Functions,
-    places: &Places,
+    table: &[SineLow],
+    i: u32,
+    shared: SharedEnd,
+    before: EndNumbers,
+    way: i128,
+) -> i128
+    requires word { IsWord functions.now }
+    requires shift { HasShift functions.now }
+    requires place { IsPlace functions.now (i + 1) }
+    requires rising { IsRising table.now }
+    requires small { All IsSmallEntry table.now }
+    requires shared { SharesEnd functions.now i shared }
+    requires before { 0 < i → AreEndNumbers functions.now table.now i before }
+    requires before_small { unsigned_abs before.upper ≤ 2 ^ 76 }
+    requires way { IsWayNumber functions.now table.now i way }
+    ensures { IsNumberOf functions.now table.now (λ v. lower_height v functions.now (i + 1)) result }
+{
+    match shared {
+        SharedEnd::Lower => before.lower,
+        SharedEnd::Upper => before.upper - way,
+        SharedEnd::Neither => number_of(functions.lower_height(i + 1).terms(), table),
+    }
+}
+
+/// The numbers of the heights of the edge i + 1, from those of the edge i, where `way` is what the upper height has more
+/// than the lower one.
+fn next_ends(
+    functions: &Functions,
+    table: &[SineLow],
+    i: u32,
+    shared: SharedEnd,
+    before: EndNumbers,
+    way: i128,
+) -> EndNumbers
+    requires word { IsWord functions.now }
+    requires shift { HasShift functions.now }
+    requires place { IsPlace functions.now (i + 1) }
+    requires rising { IsRising table.now }
+    requires small { All IsSmallEntry table.now }
+    requires shared { SharesEnd functions.now i shared }
+    requires before { 0 < i → AreEndNumbers functions.now table.now i before }
+    requires before_small { unsigned_abs before.upper ≤ 2 ^ 76 }
+    requires way { IsWayNumber functions.now table.now i way }
+    ensures { AreEndNumbers functions.now table.now (i + 1) result }
+{
+    let lower = lower_number(functions, table, i, shared, before, way);
+    EndNumbers {
+        upper: lower + way,
+        lower,
+    }
+}
+
+/// Computes the numbers of the heights, from the first edge to the last, by the numbers of the forms.
+pub fn number_heights(
+    uppers: &mut [i128],
+    lowers: &mut [i128],
+    functions: &Functions,
+    steps: &[Step],
+    forms: &[i128],
     table: &[SineLow],
 )
     requires rising { IsRising table.now }
-    requires count { length numbers.old ≡ length functions.now }
     requires small { All IsSmallEntry table.now }
-    ensures { AreLowers functions.now table.now numbers.new }
+    requires steps { (points : List FormalPoint) × AreSteps functions.now (length functions.now) points steps.now × AreFormNumbers table.now points forms.now }
+    requires uppers { length uppers.old ≡ length functions.now }
+    requires lowers { length lowers.old ≡ length functions.now }
+    ensures uppers { AreUppers functions.now table.now uppers.new }
+    ensures lowers { AreLowers functions.now table.now lowers.new }
 {
+    let mut ends = EndNumbers { upper: 0, lower: 0 };
     for i in 0..functions.letters() {
-        numbers[i as usize] = number_of(
-            functions.lower_height(i + 1).terms(),
-            places.row(i),
-            table,
-        );
+        let step = steps[i as usize];
+        let way = forms[step.plus] - forms[step.minus];
+        ends = next_ends(functions, table, i, step.shared, ends, way);
+        uppers[i as usize] = ends.upper;
+        lowers[i as usize] = ends.lower;
     }
 }
 
 /// Room for `count` numbers.
-pub fn zeros(alloc: Global, count: u32) -> Result<Vec<i128>, OutOfMemory>
+pub fn zeros(alloc: Global, count: usize) -> Result<Vec<i128>, OutOfMemory>
     ensures { IfOk result (λ numbers. length numbers.items ≡ count) }
 {
     let mut numbers = Vec::new(alloc);

@@ -8,10 +8,12 @@
 mod bounds;
 mod decision;
 mod directions;
+mod end_numbers;
 mod extremes;
 mod fault;
 mod filled;
 mod height_numbers;
+mod height_sums;
 pub mod laws;
 mod most;
 mod neighbourhood;

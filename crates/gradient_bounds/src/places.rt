@@ -1,57 +1,34 @@
-//! Where the directions of heights stand in the table.
+//! Where the directions of forms stand in the table.
+ghost use Rattle.std.specs.Prelude.{IfOk};
+ghost use Rattle.gradient_bounds.specs.HeightSums.{IsPlaceOf, ArePlacesOf, AreRowsOf, dirs_of};
 
 use crate::sine_low::SineLow;
-use defining_functions::Functions;
-use exp_sums::{Dir, Term};
+use exp_sums::{Dir, ExpSum, Term};
 use std::alloc::{AllocError as OutOfMemory, Global};
 
-/// For each height of one side, where the directions of its terms stand in the table.
-///
-/// Each place is tried where it is used, so nothing rests on it but how fast an entry is found.
+/// For each form, where the directions of its terms stand in the table.
 #[derive(Drop)]
 pub struct Places {
-    rows: Vec<Vec<usize>>,
+    pub rows: Vec<Vec<usize>>,
 }
 
 impl Places {
-    /// Those of the upper heights.
-    pub fn of_uppers(
-        alloc: Global,
-        functions: &Functions,
-        table: &[SineLow],
-    ) -> Result<Places, OutOfMemory> {
+    /// Those of the forms.
+    pub fn of(alloc: Global, forms: &[ExpSum], table: &[SineLow]) -> Result<Places, OutOfMemory>
+        ensures { IfOk result (λ p. AreRowsOf (dirs_of table.now) forms.now p.rows.items) }
+    {
         let mut rows = Vec::new(alloc);
-        for i in 0..functions.letters() {
-            let row = places_of(alloc, functions.upper_height(i + 1).terms(), table)?;
+        for form in forms {
+            let row = places_of(alloc, form.terms(), table)?;
             rows.push(row)?;
         }
         Ok(Places { rows })
-    }
-
-    /// Those of the lower heights.
-    pub fn of_lowers(
-        alloc: Global,
-        functions: &Functions,
-        table: &[SineLow],
-    ) -> Result<Places, OutOfMemory> {
-        let mut rows = Vec::new(alloc);
-        for i in 0..functions.letters() {
-            let row = places_of(alloc, functions.lower_height(i + 1).terms(), table)?;
-            rows.push(row)?;
-        }
-        Ok(Places { rows })
-    }
-
-    /// Those of the height of the edge i + 1.
-    pub fn row(&self, i: u32) -> &[usize] {
-        match self.rows.get(i as usize) {
-            Some(row) => row.as_slice(),
-            None => &[],
-        }
     }
 }
 
-fn places_of(alloc: Global, terms: &[Term], table: &[SineLow]) -> Result<Vec<usize>, OutOfMemory> {
+fn places_of(alloc: Global, terms: &[Term], table: &[SineLow]) -> Result<Vec<usize>, OutOfMemory>
+    ensures { IfOk result (λ places. ArePlacesOf (dirs_of table.now) terms.now places.items) }
+{
     let mut places = Vec::new(alloc);
     for term in terms {
         places.push(place_of(table, term.dir))?;
@@ -59,7 +36,14 @@ fn places_of(alloc: Global, terms: &[Term], table: &[SineLow]) -> Result<Vec<usi
     Ok(places)
 }
 
-// Where the direction stands, and 0 where it does not.
-fn place_of(table: &[SineLow], dir: Dir) -> usize {
-    table.iter().position(|entry| entry.dir == dir).unwrap_or(0)
+/// Where the direction stands, and the table's length where it does not.
+fn place_of(table: &[SineLow], dir: Dir) -> usize
+    ensures { IsPlaceOf (dirs_of table.now) dir result }
+{
+    for (i, entry) in table.iter().enumerate() {
+        if entry.dir == dir {
+            return i;
+        }
+    }
+    table.len()
 }

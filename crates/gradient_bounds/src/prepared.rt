@@ -24,9 +24,9 @@ use crate::decision::{each_reaches, some_falls_below};
 use crate::directions::blank_table;
 use crate::fault::PrepareFault;
 use crate::filled::is_at;
-use crate::height_numbers::{number_lowers, number_uppers, zeros};
+use crate::height_numbers::zeros;
+use crate::height_sums::HeightSums;
 use crate::neighbourhood::{point, square};
-use crate::places::Places;
 use crate::sine_low::SineLow;
 use crate::table::fill;
 use defining_functions::Functions;
@@ -49,9 +49,8 @@ pub struct Prepared<S: Scale> {
     /// Where the table was filled last.
     point: Option<(Frac, Frac)>,
     table: Vec<SineLow>,
-    /// Where the directions of the upper heights stand in the table, and those of the lower ones.
-    upper_places: Places,
-    lower_places: Places,
+    /// What the numbers of the heights are made from.
+    sums: HeightSums,
     /// The numbers of the upper heights by the table, for each edge.
     uppers: Vec<i128>,
     /// The numbers of the lower heights.
@@ -70,7 +69,7 @@ impl<S: Scale> Model for Prepared<S> {
 
     ghost view = { λ p. record { word = p.word; point = p.point; table = p.table.items } };
 
-    ghost invariant = { λ p. IsPrepared S.BITS p.word p.functions p.point p.table.items p.uppers.items p.lowers.items };
+    ghost invariant = { λ p. IsPrepared S.BITS p.word p.functions p.sums p.point p.table.items p.uppers.items p.lowers.items };
 }
 
 impl<S: Scale> Prepared<S> {
@@ -88,19 +87,16 @@ impl<S: Scale> Prepared<S> {
         let unfolding = Unfolding::of(alloc, word)?;
         let functions = Functions::of(alloc, &unfolding)?;
         let table = blank_table(alloc, &functions)?;
-        let upper_places = Places::of_uppers(alloc, &functions, &table)?;
-        let lower_places = Places::of_lowers(alloc, &functions, &table)?;
-        let mut uppers = zeros(alloc, functions.letters())?;
-        let mut lowers = zeros(alloc, functions.letters())?;
-        number_uppers(&mut uppers, &functions, &upper_places, &table);
-        number_lowers(&mut lowers, &functions, &lower_places, &table);
+        let mut sums = HeightSums::of(alloc, &unfolding, &table)?;
+        let mut uppers = zeros(alloc, functions.letters() as usize)?;
+        let mut lowers = zeros(alloc, functions.letters() as usize)?;
+        sums.number(&mut uppers, &mut lowers, &functions, &table);
         Ok(Prepared {
             word: word.copied(),
             functions,
             point: None,
             table,
-            upper_places,
-            lower_places,
+            sums,
             uppers,
             lowers,
             sines: 0,
@@ -145,16 +141,10 @@ impl<S: Scale> Prepared<S> {
         let at = over_one_denominator(x, y);
         fill::<S>(&mut self.table, &at);
         self.sines = self.sines.saturating_add(self.table.len() as u64);
-        number_uppers(
+        self.sums.number(
             &mut self.uppers,
-            &self.functions,
-            &self.upper_places,
-            &self.table,
-        );
-        number_lowers(
             &mut self.lowers,
             &self.functions,
-            &self.lower_places,
             &self.table,
         );
         self.point = Some((x, y));

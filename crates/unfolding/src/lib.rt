@@ -13,4 +13,5 @@ mod unfolding;
 mod walk;
 
 pub use signed::Signed;
+pub use triangle::next_corner;
 pub use unfolding::Unfolding;

@@ -1,11 +1,15 @@
-use Rattle.std.proofs.Common.{◌≡◌, ◌<◌, length, slice_index_or, pos, rules}
+use Rattle.std.proofs.Common.{◌≡◌, to_z, of_z, sym, subst}
+use Rattle.std.specs.Int.{w64, w128}
 use Rattle.gradient_bounds.specs.declared.sine_low.SineLow.{SineLow}
-use Rattle.gradient_bounds.proofs.Sums.{low_read}
+use Rattle.gradient_bounds.specs.Table.{low_in}
+use Rattle.gradient_bounds.proofs.Placing.{low_found, low_missing}
 use Rattle.gradient_bounds.proofs.height_numbers.low_at.Goals as goal
 
-pub returns-then-eq : goal.returns-then-eq
-returns-then-eq c =
-    let blank : SineLow = record { dir = record { m = pos 0; n = pos 0 }; low = pos 0 } in
-    let below : c.args.place < length c.args.table.now = search rules in
-    let is : (slice_index_or c.args.table.now c.args.place blank).dir ≡ c.args.dir = search rules in
-    low_read c.args.table.now c.args.dir c.args.place blank c.requires.rising c.requires.small below is
+pub returns-in-Some : goal.returns-in-Some
+returns-in-Some c =
+    let h = c.in-Some.ensures.lookup in
+    subst (λ (e : SineLow). to_z w64 (of_z w64 (to_z w128 (of_z w128 e.low))) ≡ low_in c.args.table.now c.args.dir) (sym h.1)
+    (low_found c.args.table.now c.args.dir c.args.place c.requires.place c.in-Some.entry.now c.requires.rising c.requires.small h.3.0)
+
+pub returns-in-None : goal.returns-in-None
+returns-in-None c = low_missing c.args.table.now c.args.dir c.args.place c.requires.place c.in-None.ensures.lookup.3

@@ -10,12 +10,12 @@ use Rattle.gradient_bounds.proofs.height_numbers.number_of.Goals as goal
 blank : Term
 blank = record { dir = record { m = pos 0; n = pos 0 }; c = pos 0 }
 
-step : (c : goal.After-low_at) → IsStep (low_in c.args.table.now) c.args.terms.now c.loop-term.term-index
-    (to_z w128 c.loop-term.total-bits) c.from.result c.low_at.result
+step : (c : goal.After-low_of) → IsStep (low_in c.args.table.now) c.args.terms.now c.loop-term.term-index
+    (to_z w128 c.loop-term.total-bits) c.from.result c.low_of.result
 unfolding blank
 step c =
-    step_at c.args.table.now c.requires.small c.args.terms.now c.loop-term.term-index blank (to_z w128 c.loop-term.total-bits) c.from.result c.low_at.result
-    c.loop-term-test.true c.requires.light c.loop-term.invariant c.from.ensures c.low_at.ensures
+    step_at c.args.table.now c.requires.small c.args.terms.now c.loop-term.term-index blank (to_z w128 c.loop-term.total-bits) c.from.result c.low_of.result
+    c.loop-term-test.true c.requires.light c.loop-term.invariant c.from.ensures c.low_of.ensures
 
 pub overflow_mul-total : goal.overflow_mul-total
 overflow_mul-total c =

@@ -1,7 +1,16 @@
 use Rattle.std.proofs.lemmas.Int.{to_z-of_z}
-use Rattle.gradient_bounds.proofs.Tests.{IsPair, pair}
+use Rattle.gradient_bounds.proofs.Tests.{IsPair, pair, fit_together}
 use Rattle.gradient_bounds.proofs.prepared.Prepared.bounds.Given as given
 use Rattle.gradient_bounds.proofs.prepared.Prepared.bounds.Goals as goal
+
+pub overflow_sub-index : goal.overflow_sub-index
+overflow_sub-index g c =
+    let fit = fit_together g.S.Scale.BITS c.self.inside.word c.self.inside.functions c.self.inside.most c.self.inside.point c.self.inside.table.items
+    c.self.inside.uppers.items c.self.inside.lowers.items c.self.invariant c.args.self.now c.self.view_is c.args.k c.args.l c.index.result.now
+    c.index-2.result.now c.requires.upper c.requires.lower c.index.ensures c.index-2.ensures in
+    let upper = fit.upper in
+    let lower = fit.lower in
+    simp to_z-of_z fit.difference
 
 is_pair_before : (g : given.Over) (c : goal.After-weight g)
     → IsPair g.S.Scale.BITS c.self.inside.word c.self.inside.functions c.self.inside.point c.self.inside.table.items
