@@ -14,7 +14,7 @@ use Rattle.directed_fixed.specs.Ends.{Encloses}
 use Rattle.directed_fixed.proofs.Rounding.{product_size, floor_of_division, ceiling_of_floor, rounded_mono, rounded_at_least, rounded_at_most}
 use Rattle.directed_fixed.proofs.PiSums.{pi_units, pi_size}
 use Rattle.gradient_bounds.specs.declared.neighbourhood.Neighbourhood.{Neighbourhood}
-use Rattle.gradient_bounds.specs.declared.angles.Angles.{Angles}
+use Rattle.sine_fixed.specs.declared.angles.Angles.{Angles}
 use Rattle.sine_fixed.specs.Angles.{IsAngles}
 use Rattle.gradient_bounds.specs.Neighbourhood.{IsNeighbourhood}
 use Rattle.gradient_bounds.specs.Decision.{rounded_up, drift_units, margin_units}

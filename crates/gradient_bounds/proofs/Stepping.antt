@@ -25,7 +25,8 @@ use Rattle.gradient_bounds.specs.HeightNumbers.{IsFormNumber, AreFormNumbers, Is
 use Rattle.gradient_bounds.specs.Kept.{IsSmallEntry, IsNumberOf}
 use Rattle.gradient_bounds.specs.Table.{low_in, number_in}
 use Rattle.gradient_bounds.proofs.Numbering.{table_step}
-use Rattle.gradient_bounds.proofs.Sums.{low_small, sum_small}
+use Rattle.gradient_bounds.proofs.Sums.{low_small}
+use Rattle.sine_fixed.proofs.Weighing.{sum_small}
 
 -- ---- how large the numbers of heights are
 

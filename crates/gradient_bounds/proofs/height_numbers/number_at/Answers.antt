@@ -4,7 +4,8 @@ use Rattle.std.proofs.lemmas.Int.{to_z-of_z}
 use Rattle.exp_sums.specs.declared.terms.Term.{Term}
 use Rattle.gradient_bounds.specs.Table.{low_in}
 use Rattle.gradient_bounds.proofs.Placing.{low_converted}
-use Rattle.gradient_bounds.proofs.Sums.{IsStep, step_at, number_size}
+use Rattle.gradient_bounds.proofs.Sums.{step_at, number_size}
+use Rattle.sine_fixed.proofs.Weighing.{IsStep}
 use Rattle.gradient_bounds.proofs.height_numbers.number_at.Goals as goal
 
 blank : Term

@@ -5,7 +5,7 @@ use Rattle.gradient_bounds.proofs.prepared.Prepared.bounds.Goals as goal
 
 pub overflow_sub-index : goal.overflow_sub-index
 overflow_sub-index g c =
-    let fit = fit_together g.S.Scale.BITS c.self.inside.word c.self.inside.functions c.self.inside.most c.self.inside.point c.self.inside.table.items
+    let fit = fit_together g.S.Scale.BITS c.self.inside.word c.self.inside.functions c.self.inside.point c.self.inside.table.items
     c.self.inside.uppers.items c.self.inside.lowers.items c.self.invariant c.args.self.now c.self.view_is c.args.k c.args.l c.index.result.now
     c.index-2.result.now c.requires.upper c.requires.lower c.index.ensures c.index-2.ensures in
     let upper = fit.upper in
