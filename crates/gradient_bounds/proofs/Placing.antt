@@ -1,7 +1,6 @@
 -- Places in the table.
-use Rattle.std.proofs.Common.{◌≡◌, refl, sym, ap, subst, ◌∙◌, ℕ, zero, suc, ◌+◌, ◌^◌, ◌<◌, ◌≤◌, List, [], ◌∷◌, map, length, get_or, slice_index_or}
-use Rattle.std.proofs.Common.{Bool, true, false, if◌then◌else◌, ℤ, pos, unsigned_abs, FitsSigned, to_z, of_z, arith}
-use Rattle.std.specs.Global.{Vec}
+use Rattle.std.proofs.Common.{◌≡◌, refl, sym, ap, subst, ◌∙◌, ℕ, zero, suc, ◌^◌, ◌<◌, ◌≤◌, List, [], ◌∷◌, length, get_or, slice_index_or}
+use Rattle.std.proofs.Common.{Bool, true, false, if◌then◌else◌, ℤ, pos, unsigned_abs, to_z, of_z, arith}
 use Rattle.std.specs.Int.{w64, w128}
 use Rattle.std.specs.List.{All}
 use Rattle.std.proofs.lemmas.Int.{to_z-of_z, fits_signed_from_abs}

@@ -1,5 +1,5 @@
 -- The numbers of heights, edge by edge, by the numbers of forms.
-use Rattle.std.proofs.Common.{◌≡◌, sym, ap, ap₂, subst, ◌∙◌, ℕ, ◌+◌, ◌*◌, ◌^◌, ◌<◌, ◌≤◌, List, length, get_or, set, slice_index_or, ℤ, pos, ◌+ℤ◌, ◌-ℤ◌, unsigned_abs, arith}
+use Rattle.std.proofs.Common.{◌≡◌, sym, ap, ap₂, subst, ◌∙◌, ℕ, ◌+◌, ◌^◌, ◌<◌, ◌≤◌, List, length, get_or, set, slice_index_or, ℤ, pos, ◌+ℤ◌, ◌-ℤ◌, unsigned_abs, arith}
 use Rattle.std.proofs.Common.{FitsSigned}
 use Rattle.std.specs.Int.{w128}
 use Rattle.std.specs.List.{All}
@@ -9,7 +9,7 @@ use Rattle.ring_solver.proofs.Whole.{ℤ_ring, ℤ_image}
 use Rattle.edge_words.specs.Letters.{IsPlace}
 use Rattle.edge_words.specs.Word.{IsWord}
 use Rattle.exp_sums.specs.declared.terms.Term.{Term}
-use Rattle.exp_sums.specs.FormalPoint.{FormalPoint, terms, zero_point, ◌+ₚ◌, ◌-ₚ◌}
+use Rattle.exp_sums.specs.FormalPoint.{FormalPoint, terms, zero_point, ◌-ₚ◌}
 use Rattle.exp_sums.specs.Limits.{weight}
 use Rattle.exp_sums.specs.Weigh.{weigh_terms}
 use Rattle.exp_sums.proofs.Numbers.{weighing_linear}
@@ -19,9 +19,8 @@ use Rattle.defining_functions.specs.Heights.{height, upper_height, lower_height}
 use Rattle.defining_functions.specs.Steps.{IsStep}
 use Rattle.defining_functions.specs.declared.step.Step.{Step}
 use Rattle.defining_functions.proofs.Limits.{upper_height_limits, lower_height_limits}
-use Rattle.gradient_bounds.specs.declared.end_numbers.EndNumbers.{EndNumbers}
 use Rattle.gradient_bounds.specs.declared.sine_low.SineLow.{SineLow}
-use Rattle.gradient_bounds.specs.HeightNumbers.{IsFormNumber, AreFormNumbers, IsWayNumber, AreEndNumbers}
+use Rattle.gradient_bounds.specs.HeightNumbers.{IsFormNumber, AreFormNumbers, IsWayNumber}
 use Rattle.gradient_bounds.specs.Kept.{IsSmallEntry, IsNumberOf}
 use Rattle.gradient_bounds.specs.Table.{low_in, number_in}
 use Rattle.gradient_bounds.proofs.Numbering.{table_step}

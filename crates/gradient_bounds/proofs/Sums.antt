@@ -25,16 +25,14 @@ use Rattle.exp_sums.proofs.Within.{dirs-point_of}
 use Rattle.trig_meaning.specs.FromSomeOn.{FromSomeOn}
 use Rattle.trig_meaning.specs.Turn.{sine_of_turn}
 use Rattle.trig_meaning.specs.Value.{turn_of, value_at}
-use Rattle.trig_meaning.proofs.FromSomeOnLaws.{onward}
 use Rattle.unfolding.specs.Shift.{IsShift}
-use Rattle.directed_fixed.specs.Ends.{Ends, Encloses}
-use Rattle.sine_fixed.specs.ReferenceAngle.{ReferenceAngle, sine_of}
+use Rattle.directed_fixed.specs.Ends.{Encloses}
 use Rattle.defining_functions.specs.Functions.{defining_function}
 use Rattle.defining_functions.specs.Heights.{upper_height, lower_height}
 use Rattle.defining_functions.proofs.Differences.{function_difference}
 use Rattle.gradient_bounds.specs.declared.sine_low.SineLow.{SineLow}
 use Rattle.sine_fixed.proofs.Turning.{fits_128}
-use Rattle.sine_fixed.proofs.Weighing.{IsFrom, IsStep, sum_of_first, step_exactly, from_low, wider, sum_near}
+use Rattle.sine_fixed.proofs.Weighing.{IsFrom, IsStep, sum_of_first, step_exactly, sum_near}
 use Rattle.gradient_bounds.specs.Table.{IsRising, IsTableOf, IsLowAt, low_in, number_in, bounds_in}
 use Rattle.gradient_bounds.specs.Kept.{IsSmallEntry}
 
@@ -185,19 +183,6 @@ pub number_difference : (table : List SineLow) (v : FormalPoint) (w : List ℕ) 
     → number_in table (defining_function v w k l) ≡ number_in table (upper_height v w k) -ℤ number_in table (lower_height v w l)
 number_difference table v w k l =
     ap (number_in table) (function_difference v w k l) ∙ weighing_linear.of_difference (low_in table) (upper_height v w k) (lower_height v w l)
-
--- ---- one sine
-
--- the lower end of an interval of 256 units for a sine
-pub low_computed : (bits : ℕ) (x y : ℚ) (d : Dir) (a : ReferenceAngle) (q : ℚ) (s : Ends) (low : ℤ) → ((n : ℕ) → sine_of_turn n q ≡ sine_of n a)
-    → q ≡ turn_of d x y → FromSomeOn (λ n. Encloses bits s (sine_of n a)) → s.hi ≤ℤ (s.lo +ℤ pos 256) → low ≡ s.lo → IsSineFrom bits x y low d
-low_computed bits x y d a q s low sines q_is encloses narrow low_is =
-    subst (λ z. IsSineFrom bits x y z d) (sym low_is)
-    (onward (λ n h. wider bits s (from_low s.lo) (sine_of_turn n (turn_of d x y)) (≤ℤ_refl s.lo) narrow
-    (subst (Encloses bits s) (sym (sines n) ∙ ap (sine_of_turn n) q_is) h)) encloses)
-  where
-    ≤ℤ_refl : (z : ℤ) → z ≤ℤ z
-    ≤ℤ_refl z = omega (arith, ints)
 
 -- ---- the entries so far
 

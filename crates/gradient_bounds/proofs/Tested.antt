@@ -1,15 +1,11 @@
 -- What the decision by the numbers of heights says of the table, and of the functions at the centre of a neighbourhood.
-use Rattle.std.proofs.Common.{◌≡◌, refl, sym, ap, ◌∙◌, subst, ℕ, ◌+◌, ◌*◌, ◌^◌, ◌≤◌, List, [], ◌∷◌, ℤ, pos, ◌+ℤ◌, ◌-ℤ◌, ◌*ℤ◌, neg_ℤ, ◌≤ℤ◌, arith}
+use Rattle.std.proofs.Common.{◌≡◌, refl, sym, ap, ◌∙◌, subst, ℕ, ◌+◌, ◌*◌, ◌^◌, ◌≤◌, List, ℤ, pos, ◌+ℤ◌, ◌-ℤ◌, ◌*ℤ◌, neg_ℤ, ◌≤ℤ◌, arith}
 use Rattle.std.specs.Prelude.{◌↔◌}
 use Rattle.std.specs.List.{All}
 use Rattle.std.proofs.lemmas.Int.{ints}
-use Rattle.ring_solver.specs.Expression.{num, ◌⊞◌, ◌⊠◌}
-use Rattle.ring_solver.specs.Ordered.{le}
-use Rattle.ring_solver.proofs.Certificate.{le₂}
+use Rattle.ring_solver.specs.Expression.{num, ◌⊠◌}
 use Rattle.ring_solver.proofs.Solver.{ring₁, ring₂}
 use Rattle.ring_solver.proofs.Whole.{ℤ_ring}
-use Rattle.rat_core.specs.Fraction.{ℚ, whole, ◌+ℚ◌, ◌≤ℚ◌, ◌<ℚ◌}
-use Rattle.rat_core.proofs.Laws.{ℚ_ordered, lt_le}
 use Rattle.edge_words.specs.Letters.{IsPlace}
 use Rattle.edge_words.specs.Stable.{IsStable}
 use Rattle.edge_words.specs.Word.{IsWord}

@@ -13,7 +13,7 @@ ghost use Rattle.gradient_bounds.specs.Kept.{IsSmallEntry};
 use crate::sine_low::SineLow;
 use directed_fixed::Scale;
 use exp_sums::Dir;
-use sine_fixed::{Angles, sine, turn, turn_numerator};
+use sine_fixed::{Angles, direction_sine};
 
 /// A number for the sine of a direction at a point: at most the sine, and at most 256 units below it.
 fn low_sine<S: Scale>(dir: Dir, at: &Angles) -> i128
@@ -22,7 +22,7 @@ fn low_sine<S: Scale>(dir: Dir, at: &Angles) -> i128
     ensures low { IsLowAt S.BITS (first_angle at.now) (second_angle at.now) (record { dir = dir; low = result }) }
     ensures size { unsigned_abs result ≤ 2 ^ 62 }
 {
-    sine::<S>(turn(turn_numerator(dir, at), at.den)).lo()
+    direction_sine::<S>(dir, at).lo()
 }
 
 /// Computes the number of each entry at a point.

@@ -1,7 +1,6 @@
-use Rattle.std.proofs.Common.{◌≡◌, ◌+◌, ◌<◌, FitsSigned, ◌-ℤ◌, subst, arith}
+use Rattle.std.proofs.Common.{◌+◌, FitsSigned, ◌-ℤ◌, subst, arith}
 use Rattle.std.specs.Int.{w128}
 use Rattle.std.proofs.lemmas.Int.{to_z-of_z}
-use Rattle.unfolding.specs.Corners.{upper_corner}
 use Rattle.defining_functions.specs.Steps.{SharesEnd}
 use Rattle.gradient_bounds.proofs.Stepping.{fits_128, difference_fits, below_upper, lower_number_of}
 use Rattle.gradient_bounds.proofs.height_numbers.lower_number.Goals as goal

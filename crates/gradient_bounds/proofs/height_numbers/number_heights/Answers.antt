@@ -2,11 +2,9 @@ use Rattle.std.proofs.Common.{◌+◌, ◌<◌, FitsSigned, length, slice_index_
 use Rattle.std.specs.Int.{w128}
 use Rattle.std.proofs.lemmas.Int.{to_z-of_z}
 use Rattle.defining_functions.specs.Heights.{upper_height, lower_height}
-use Rattle.defining_functions.specs.Steps.{IsStep}
 use Rattle.defining_functions.specs.declared.shared_end.SharedEnd.TheVariants.{Upper}
-use Rattle.defining_functions.specs.declared.step.Step.{Step}
 use Rattle.gradient_bounds.proofs.Numbering.{next_number}
-use Rattle.gradient_bounds.proofs.Stepping.{IsWay, way_of, fits_128}
+use Rattle.gradient_bounds.proofs.Stepping.{way_of, fits_128}
 use Rattle.gradient_bounds.proofs.height_numbers.number_heights.Goals as goal
 
 pub overflow_sub-way : goal.overflow_sub-way
