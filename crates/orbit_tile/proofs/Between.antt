@@ -9,12 +9,12 @@ use Rattle.orbit_tile.specs.declared.patch.Patch.{Patch}
 use Rattle.orbit_tile.specs.declared.patch.PatchKind.{PatchKind}
 use Rattle.orbit_tile.specs.declared.patch.PatchKind.TheVariants.{Inside, Outside, Undecided, Beyond}
 use Rattle.orbit_tile.specs.Causes.{HasCause, IsDivided}
-use Rattle.orbit_tile.specs.Laws.{IsBetween, TilesDifferBetween, FullDiffersBetween}
+use Rattle.orbit_tile.specs.Laws.{IsBetweenSlacks, TilesDifferBetween, FullDiffersBetween}
 use Rattle.orbit_tile.specs.Trees.{Tree, leaf, divided, leaves, StandsByCause}
 use Rattle.orbit_tile.specs.Trees.{BegunTree, still_due, in_first, in_second, in_third, in_fourth, first_leaves, BeginsByCause}
 
 abbrev SomeBetween : List ℕ → Type 0
-SomeBetween w = (box : Square) × IsBetween w box
+SomeBetween w = (box : Square) × IsBetweenSlacks w box
 
 -- ---- one box
 

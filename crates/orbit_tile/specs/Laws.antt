@@ -37,7 +37,7 @@ PatchesCover =
 -- ---- how much freedom the causes leave
 
 -- on the box the word is clear or shut with the narrower slack, and with the wider one it is neither
-pub record IsBetween (w : List ℕ) (box : Square) : Type 0 where
+pub record IsBetweenSlacks (w : List ℕ) (box : Square) : Type 0 where
   pub seen : IsClear w box slacks.sound.gradient ⊎ IsShut w box slacks.sound.gradient
   pub in_question : IsInQuestion w box
 
@@ -45,10 +45,10 @@ pub record IsBetween (w : List ℕ) (box : Square) : Type 0 where
 abbrev pub TilesDifferBetween : Type 0
 TilesDifferBetween =
     (w : List ℕ) (depth : ℕ) (patches patches' : List Patch) → IsTile w depth patches → IsTile w depth patches'
-    → (patches ≡ patches') ⊎ ((box : Square) × IsBetween w box)
+    → (patches ≡ patches') ⊎ ((box : Square) × IsBetweenSlacks w box)
 
 -- so many patches are too few for a tile that has no more of them only where some box is between
 abbrev pub FullDiffersBetween : Type 0
 FullDiffersBetween =
     (w : List ℕ) (depth limit : ℕ) (patches : List Patch) → IsTile w depth patches → length patches ≤ limit → IsFull w depth limit
-    → (box : Square) × IsBetween w box
+    → (box : Square) × IsBetweenSlacks w box
