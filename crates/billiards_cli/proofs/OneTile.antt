@@ -1,5 +1,5 @@
 -- How much freedom right answers of `tile` leave.
-use Rattle.std.proofs.Common.{◌≡◌, inl, inr, ℕ, List, refl, sym, ap, subst, ◌∙◌}
+use Rattle.std.proofs.Common.{inl, inr, ℕ, List, refl, sym, ap, subst, ◌∙◌}
 use Rattle.covering_file.proofs.CornerForms.{word_is_form}
 use Rattle.orbit_tile.specs.Tile.{IsTile, IsFull}
 use Rattle.orbit_tile.specs.declared.TheConstants.{MAX_PATCHES}
