@@ -16,4 +16,5 @@ pub mod CoverSizes
 pub mod DemoAnswers
 pub mod SearchAnswers
 pub mod TileAnswers
+pub mod OneTile
 pub mod OneAnswer
