@@ -15,3 +15,4 @@ pub mod CoverSizes
 pub mod DemoAnswers
 pub mod SearchAnswers
 pub mod OneAnswer
+pub mod UnfoldAnswers

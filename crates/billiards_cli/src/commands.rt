@@ -5,4 +5,5 @@ pub(crate) mod cover;
 pub(crate) mod demo;
 pub(crate) mod job;
 pub(crate) mod search;
+pub(crate) mod unfold;
 pub(crate) mod word;

@@ -11,6 +11,7 @@ use crate::commands::cover::{self, cover};
 use crate::commands::demo::{self, demo};
 use crate::commands::job::{self, job};
 use crate::commands::search::{self, search};
+use crate::commands::unfold::{self, unfold};
 use crate::commands::word::{self, word};
 use crate::{Args, JobNumber, SearchBound, Status, Triangle, WordArgument};
 use mcb_ends::{Sink, Source};
@@ -39,6 +40,11 @@ pub(crate) enum Request<'a> {
         triangle: Triangle,
         bound: SearchBound,
     },
+    /// The picture of a word's unfolding in a triangle.
+    Unfold {
+        word: WordArgument<'a>,
+        triangle: Triangle,
+    },
 }
 
 /// The request of a command line: its first argument is the name of a command.
@@ -60,6 +66,8 @@ pub(crate) fn parse(arguments: &Args) -> Option<Request<'_>>
         demo::request(&arguments)
     } else if name == b"search".as_slice() {
         search::request(&arguments)
+    } else if name == b"unfold".as_slice() {
+        unfold::request(&arguments)
     } else {
         None
     }
@@ -88,5 +96,6 @@ pub(crate) fn obey<S: Source, K: Sink>(
         Request::Job(number) => job(number, out),
         Request::Demo(number) => demo(alloc, number, out),
         Request::Search { triangle, bound } => search(alloc, triangle, bound, out),
+        Request::Unfold { word, triangle } => unfold(alloc, word, triangle, out),
     }
 }

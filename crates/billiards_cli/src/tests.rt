@@ -6,5 +6,6 @@ mod demo;
 mod fixtures;
 mod job;
 mod search;
+mod unfold;
 mod usage;
 mod word;

@@ -19,3 +19,8 @@ pub returns-in-Search-clause-serves : goal.returns-in-Search-clause-serves
 returns-in-Search-clause-serves g c =
     let s = g.S.Source in
     rw c.in-Search.is (c.search.ensures.serves (s.left c.args.src.now) (s.faults c.args.src.now))
+
+pub returns-in-Unfold-clause-serves : goal.returns-in-Unfold-clause-serves
+returns-in-Unfold-clause-serves g c =
+    let s = g.S.Source in
+    rw c.in-Unfold.is (c.unfold.ensures.serves (s.left c.args.src.now) (s.faults c.args.src.now))
