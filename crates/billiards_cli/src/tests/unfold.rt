@@ -1,5 +1,6 @@
-use crate::tests::fixtures::{arguments_of, sink, source};
+use crate::tests::fixtures::{arguments_of, source};
 use crate::{Status, run};
+use mcb_ends::MemSink;
 use std::alloc::{AllocError, Global};
 use std::process::Abort;
 use std::test::Fail;
@@ -37,7 +38,7 @@ fn assert_answered(
 ) -> Result<(), AllocError> {
     let arguments = arguments_of(rt.alloc(), arguments)?;
     let mut src = source(rt.alloc(), b"", 16, &[1])?;
-    let mut out = sink(rt.alloc(), &[])?;
+    let mut out = MemSink::new(rt.alloc(), 4096, 7, Vec::new(rt.alloc()))?;
     assert_eq!(rt; run(rt.alloc(), &arguments, &mut src, &mut out), status);
     assert_eq!(rt; out.bytes(), text.as_bytes());
     assert_eq!(rt; src.faults(), 0);
@@ -69,7 +70,7 @@ fn unfold_refuses_other_arguments(rt: HostRuntime) -> Result<(), Fail> {
 fn unfold_draws_an_unstable_word(rt: HostRuntime) -> Result<(), Fail> {
     let arguments = arguments_of(rt.alloc(), &["unfold", "121323", "1", "1", "3"])?;
     let mut src = source(rt.alloc(), b"", 16, &[1])?;
-    let mut out = sink(rt.alloc(), &[])?;
+    let mut out = MemSink::new(rt.alloc(), 4096, 7, Vec::new(rt.alloc()))?;
     assert_eq!(rt; run(rt.alloc(), &arguments, &mut src, &mut out), Status::Done);
     Ok(())
 }
