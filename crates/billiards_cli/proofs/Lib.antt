@@ -14,5 +14,7 @@ pub mod CoverAnswers
 pub mod CoverSizes
 pub mod DemoAnswers
 pub mod SearchAnswers
+pub mod TileAnswers
+pub mod OneTile
 pub mod OneAnswer
 pub mod UnfoldAnswers

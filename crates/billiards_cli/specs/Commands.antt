@@ -6,4 +6,5 @@ pub mod Cover
 pub mod Job
 pub mod Demo
 pub mod Search
+pub mod Tile
 pub mod Unfold

@@ -7,11 +7,14 @@ use Rattle.gradient_bounds.specs.Slacks.{sure}
 use Rattle.covering_file.specs.Header.{IsHeading}
 use Rattle.covering_file.specs.Verdicts.{IsSureFile}
 use Rattle.covering_file.specs.declared.TheConstants.{MAX_NODES}
+use Rattle.rational_polygon.specs.Square.{Square}
+use Rattle.orbit_tile.specs.Laws.{IsBetweenSlacks}
 use Rattle.billiards_cli.specs.Arguments.{Angles}
 use Rattle.billiards_cli.specs.Jobs.{IsJobNumber, job_heading}
 use Rattle.billiards_cli.specs.Commands.At.{AtTriangle, IsAtAnswer}
 use Rattle.billiards_cli.specs.Commands.Check.{IsCheckAnswer}
 use Rattle.billiards_cli.specs.Commands.Cover.{IsCoverAnswer}
+use Rattle.billiards_cli.specs.Commands.Tile.{IsTileAnswer}
 use Rattle.billiards_cli.specs.Commands.Word.{IsWordAnswer}
 use Rattle.billiards_cli.specs.declared.status.Status.{Status}
 use Rattle.billiards_cli.specs.declared.status.Status.TheVariants.{Done, OutOfMemory}
@@ -33,6 +36,19 @@ abbrev pub AtAnswersDifferBetween : Type 0
 AtAnswersDifferBetween = (argument text text' : List ℕ) (triangle : Angles) (status status' : Status) → IsAtAnswer argument triangle status text
     → IsAtAnswer argument triangle status' text' → status ≢ OutOfMemory → status' ≢ OutOfMemory
     → ((status ≡ status') × (text ≡ text')) ⊎ IsBetween argument triangle
+
+-- on some box the word that an argument spells is clear or shut with the narrower slack, and neither with the wider one
+pub record HasBoxBetween (argument : List ℕ) : Type 0 where
+  pub word : List ℕ
+  pub spells : Spells argument word
+  pub box : Square
+  pub between : IsBetweenSlacks word box
+
+-- two right answers of `tile` are one, but for want of memory, or for such a box
+abbrev pub TileAnswersDifferBetween : Type 0
+TileAnswersDifferBetween = (argument text text' : List ℕ) (depth : ℕ) (status status' : Status) → IsTileAnswer argument depth status text
+    → IsTileAnswer argument depth status' text' → status ≢ OutOfMemory → status' ≢ OutOfMemory
+    → ((status ≡ status') × (text ≡ text')) ⊎ HasBoxBetween argument
 
 -- Complete is accepted: what `cover` writes where it is done is the text of a file with a sure tree, and `check` accepts it, but for want of memory.
 abbrev pub CompleteIsAccepted : Type 0

@@ -6,6 +6,7 @@ pub mod Refusals
 pub mod EndLine
 pub mod Jobs
 pub mod SearchBounds
+pub mod TileDepths
 pub mod Commands
 pub mod Requests
 pub mod Headline

@@ -5,5 +5,6 @@ pub(crate) mod cover;
 pub(crate) mod demo;
 pub(crate) mod job;
 pub(crate) mod search;
+pub(crate) mod tile;
 pub(crate) mod unfold;
 pub(crate) mod word;

@@ -1,6 +1,6 @@
 //! How much freedom right answers leave, and how those of one command go with those of another, over the definitions alone:
 //! each function's contract is a law. The program calls none.
-ghost use Rattle.billiards_cli.specs.Laws.{WordAnswerIsOne, AtAnswersDifferBetween, CompleteIsAccepted, GeneratedIsJob};
+ghost use Rattle.billiards_cli.specs.Laws.{WordAnswerIsOne, AtAnswersDifferBetween, TileAnswersDifferBetween, CompleteIsAccepted, GeneratedIsJob};
 
 /// Two right answers of `word` to one input, neither of which is that memory is wanting, have one status and one text.
 pub fn word_answer_is_one()
@@ -11,6 +11,12 @@ pub fn word_answer_is_one()
 /// a corridor at the triangle and is not clear there with the wider slack.
 pub fn at_answers_differ_between()
     ensures { AtAnswersDifferBetween }
+{}
+
+/// Two right answers of `tile`, neither of which is that memory is wanting, have one status and one text, or else there is a
+/// box on which the word is clear or shut with the narrower slack, and neither with the wider one.
+pub fn tile_answers_differ_between()
+    ensures { TileAnswersDifferBetween }
 {}
 
 /// Complete is accepted: what `cover` writes where it is done is the text of a file with a sure tree, and `check` accepts it,

@@ -19,6 +19,7 @@ mod search_bound;
 mod status;
 #[cfg(test)]
 mod tests;
+mod tile_depth;
 mod triangle;
 mod usage;
 mod word_argument;
@@ -33,6 +34,7 @@ use std::alloc::Global;
 use std::env::Env;
 use std::process::ExitCode;
 use std::{env, io};
+use tile_depth::TileDepth;
 use triangle::Triangle;
 use usage::USAGE;
 use word_argument::WordArgument;

@@ -11,9 +11,10 @@ use crate::commands::cover::{self, cover};
 use crate::commands::demo::{self, demo};
 use crate::commands::job::{self, job};
 use crate::commands::search::{self, search};
+use crate::commands::tile::{self, tile};
 use crate::commands::unfold::{self, unfold};
 use crate::commands::word::{self, word};
-use crate::{Args, JobNumber, SearchBound, Status, Triangle, WordArgument};
+use crate::{Args, JobNumber, SearchBound, Status, TileDepth, Triangle, WordArgument};
 use mcb_ends::{Sink, Source};
 use std::alloc::Global;
 
@@ -39,6 +40,11 @@ pub(crate) enum Request<'a> {
     Search {
         triangle: Triangle,
         bound: SearchBound,
+    },
+    /// The picture of a word's tile.
+    Tile {
+        word: WordArgument<'a>,
+        depth: TileDepth,
     },
     /// The picture of a word's unfolding in a triangle.
     Unfold {
@@ -66,6 +72,8 @@ pub(crate) fn parse(arguments: &Args) -> Option<Request<'_>>
         demo::request(&arguments)
     } else if name == b"search".as_slice() {
         search::request(&arguments)
+    } else if name == b"tile".as_slice() {
+        tile::request(&arguments)
     } else if name == b"unfold".as_slice() {
         unfold::request(&arguments)
     } else {
@@ -96,6 +104,7 @@ pub(crate) fn obey<S: Source, K: Sink>(
         Request::Job(number) => job(number, out),
         Request::Demo(number) => demo(alloc, number, out),
         Request::Search { triangle, bound } => search(alloc, triangle, bound, out),
+        Request::Tile { word, depth } => tile(alloc, word, depth, out),
         Request::Unfold { word, triangle } => unfold(alloc, word, triangle, out),
     }
 }

@@ -6,6 +6,7 @@ mod demo;
 mod fixtures;
 mod job;
 mod search;
+mod tile;
 mod unfold;
 mod usage;
 mod word;

@@ -1,2 +1,3 @@
 mod Reached
 pub mod Leaves
+pub mod Between

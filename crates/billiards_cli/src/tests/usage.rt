@@ -5,7 +5,7 @@ use std::test::Fail;
 // Arguments that ask for nothing leave the input alone.
 #[test]
 fn other_arguments_are_a_wrong_use(rt: HostRuntime) -> Result<(), Fail> {
-    let rows: [&[&str]; 20] = [
+    let rows: [&[&str]; 24] = [
         &[],
         &["help"],
         &["check", "x"],
@@ -25,6 +25,10 @@ fn other_arguments_are_a_wrong_use(rt: HostRuntime) -> Result<(), Fail> {
         &["search", "1", "1", "3", "06"],
         &["search", "1", "1", "2", "6"],
         &["search", "1", "1", "3"],
+        &["tile", "123123"],
+        &["tile", "123123", "11"],
+        &["tile", "123123", "01"],
+        &["tile", "123123", "1", "4"],
         &["upgrade", "1"],
     ];
     for arguments in rows {
