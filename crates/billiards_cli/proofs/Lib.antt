@@ -18,3 +18,4 @@ pub mod SearchAnswers
 pub mod TileAnswers
 pub mod OneTile
 pub mod OneAnswer
+pub mod UnfoldAnswers

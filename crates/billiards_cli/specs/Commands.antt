@@ -7,3 +7,4 @@ pub mod Job
 pub mod Demo
 pub mod Search
 pub mod Tile
+pub mod Unfold

@@ -6,4 +6,5 @@ pub(crate) mod demo;
 pub(crate) mod job;
 pub(crate) mod search;
 pub(crate) mod tile;
+pub(crate) mod unfold;
 pub(crate) mod word;

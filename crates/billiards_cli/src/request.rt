@@ -12,6 +12,7 @@ use crate::commands::demo::{self, demo};
 use crate::commands::job::{self, job};
 use crate::commands::search::{self, search};
 use crate::commands::tile::{self, tile};
+use crate::commands::unfold::{self, unfold};
 use crate::commands::word::{self, word};
 use crate::{Args, JobNumber, SearchBound, Status, TileDepth, Triangle, WordArgument};
 use mcb_ends::{Sink, Source};
@@ -45,6 +46,11 @@ pub(crate) enum Request<'a> {
         word: WordArgument<'a>,
         depth: TileDepth,
     },
+    /// The picture of a word's unfolding in a triangle.
+    Unfold {
+        word: WordArgument<'a>,
+        triangle: Triangle,
+    },
 }
 
 /// The request of a command line: its first argument is the name of a command.
@@ -68,6 +74,8 @@ pub(crate) fn parse(arguments: &Args) -> Option<Request<'_>>
         search::request(&arguments)
     } else if name == b"tile".as_slice() {
         tile::request(&arguments)
+    } else if name == b"unfold".as_slice() {
+        unfold::request(&arguments)
     } else {
         None
     }
@@ -97,5 +105,6 @@ pub(crate) fn obey<S: Source, K: Sink>(
         Request::Demo(number) => demo(alloc, number, out),
         Request::Search { triangle, bound } => search(alloc, triangle, bound, out),
         Request::Tile { word, depth } => tile(alloc, word, depth, out),
+        Request::Unfold { word, triangle } => unfold(alloc, word, triangle, out),
     }
 }

@@ -7,5 +7,6 @@ mod fixtures;
 mod job;
 mod search;
 mod tile;
+mod unfold;
 mod usage;
 mod word;

@@ -9,3 +9,4 @@ pub mod Rounded
 pub mod Summing
 pub mod Spots
 pub mod Pictures
+pub mod Thirds

@@ -13,6 +13,8 @@ mod frame;
 mod side;
 mod spot;
 mod svg;
+#[cfg(test)]
+mod tests;
 mod tile_picture;
 mod triangles;
 mod unfolding_picture;

@@ -24,3 +24,8 @@ pub returns-in-Tile-clause-serves : goal.returns-in-Tile-clause-serves
 returns-in-Tile-clause-serves g c =
     let s = g.S.Source in
     rw c.in-Tile.is (c.tile.ensures.serves (s.left c.args.src.now) (s.faults c.args.src.now))
+
+pub returns-in-Unfold-clause-serves : goal.returns-in-Unfold-clause-serves
+returns-in-Unfold-clause-serves g c =
+    let s = g.S.Source in
+    rw c.in-Unfold.is (c.unfold.ensures.serves (s.left c.args.src.now) (s.faults c.args.src.now))

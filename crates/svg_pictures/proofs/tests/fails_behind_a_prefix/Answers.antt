@@ -1,0 +1,11 @@
+use Rattle.svg_pictures.proofs.Thirds.{positive, below_one}
+use Rattle.svg_pictures.proofs.tests.fails_behind_a_prefix.Goals as goal
+
+pub write_unfolding-written-requires-clause-first : goal.write_unfolding-written-requires-clause-first
+write_unfolding-written-requires-clause-first g c = positive c.new-3.result c.new-3.ensures
+
+pub write_unfolding-written-requires-clause-second : goal.write_unfolding-written-requires-clause-second
+write_unfolding-written-requires-clause-second g c = positive c.new-4.result c.new-4.ensures
+
+pub write_unfolding-written-requires-clause-third : goal.write_unfolding-written-requires-clause-third
+write_unfolding-written-requires-clause-third g c = below_one c.new-3.result c.new-4.result c.new-3.ensures c.new-4.ensures
