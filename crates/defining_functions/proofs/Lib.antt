@@ -4,4 +4,4 @@ pub mod Differences
 pub mod SideSteps
 pub mod Sizes
 pub mod Kept
-pub mod Edges
+pub mod AllHeights
