@@ -4,5 +4,5 @@ pub mod Differences
 pub mod SideSteps
 pub mod Sizes
 pub mod Kept
-pub mod Edges
+pub mod AllHeights
 pub mod Steps

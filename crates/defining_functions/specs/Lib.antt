@@ -2,7 +2,7 @@ pub mod Functions
 pub mod Heights
 pub mod Laws
 pub mod Sizes
-pub mod Edges
+pub mod AllHeights
 pub mod Tables
 pub mod Kept
 pub mod Steps

@@ -10,7 +10,7 @@ ghost use Rattle.unfolding.specs.Shift.{IsShift, HasShift};
 ghost use Rattle.defining_functions.specs.Functions.{defining_function, IsWithinFunctionLimits};
 ghost use Rattle.defining_functions.specs.Heights.{upper_height, lower_height};
 ghost use Rattle.defining_functions.specs.Sizes.{sizes_of, AreAtMost, AreSmall};
-ghost use Rattle.defining_functions.specs.Edges.{HaveAllHeights};
+ghost use Rattle.defining_functions.specs.AllHeights.{HaveAllHeights};
 ghost use Rattle.defining_functions.specs.declared.fault.FunctionsFault.TheVariants.{NotTranslate};
 
 use crate::fault::FunctionsFault;

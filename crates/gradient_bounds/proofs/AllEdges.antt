@@ -5,7 +5,7 @@ use Rattle.std.proofs.lemmas.List.{get_or_default}
 use Rattle.edge_words.specs.Letters.{IsPlace}
 use Rattle.exp_sums.specs.FormalPoint.{FormalPoint, ◌-ₚ◌}
 use Rattle.unfolding.specs.Shift.{IsShift}
-use Rattle.defining_functions.specs.Edges.{HaveAllHeights}
+use Rattle.defining_functions.specs.AllHeights.{HaveAllHeights}
 use Rattle.defining_functions.specs.Functions.{defining_function}
 use Rattle.defining_functions.specs.Heights.{upper_height, lower_height}
 use Rattle.defining_functions.proofs.Differences.{function_difference}

@@ -1,7 +1,9 @@
 -- What a function needs, as the machine computes it: drift and margin fit their type, and are as they are defined.
-use Rattle.std.proofs.Common.{◌≡◌, ◌↔◌, refl, sym, subst, ℕ, ◌+◌, ◌-◌, ◌*◌, ◌^◌, ◌<◌, ◌≤◌, ℤ, pos, negsuc, ◌+ℤ◌, ◌-ℤ◌, ◌*ℤ◌, neg_ℤ, ◌≤ℤ◌}
+use Rattle.std.proofs.Common.{◌≡◌, ◌↔◌, refl, sym, subst₂, subst, ℕ, ◌+◌, ◌-◌, ◌*◌, ◌^◌, ◌<◌, ◌≤◌, ℤ, pos, negsuc, ◌+ℤ◌, ◌-ℤ◌, ◌*ℤ◌, neg_ℤ, ◌≤ℤ◌}
 use Rattle.std.proofs.Common.{unsigned_abs, FitsSigned, true, arith}
-use Rattle.std.proofs.Common.{mul-le-mul}
+use Rattle.std.proofs.Common.{mul-le-mul, ◌/◌}
+use Rattle.std.proofs.Math.Nat.{mod-lt, div-le_self}
+use Rattle.std.proofs.lemmas.Nat.{div-add-mod'}
 use Rattle.std.proofs.Math.Pow.{pow_mono}
 use Rattle.std.proofs.lemmas.Int.{ints}
 use Rattle.std.proofs.lemmas.Nat.{pow_pos}
@@ -92,6 +94,10 @@ product_at_least : (H p : ℤ) (r : ℕ) → pos 0 ≤ℤ H → pos 0 ≤ℤ p �
 product_at_least (pos h) (pos q) r low low' = omega (arith, ints)
 product_at_least (pos h) (negsuc q) r low low' = absurd low'.le
 product_at_least (negsuc h) p r low low' = absurd low.le
+
+-- as it is computed
+pub dividend_at_least : (H from p P : ℤ) (reach : ℕ) → pos 0 ≤ℤ P → pos 0 ≤ℤ p → H ≡ P → from ≡ pos reach → pos 0 ≤ℤ (H *ℤ (from *ℤ p))
+dividend_at_least H from p P reach low low' H_is from_is = subst₂ (λ h r. pos 0 ≤ℤ (h *ℤ (r *ℤ p))) (sym H_is) (sym from_is) (product_at_least P p reach low low')
 
 -- a drift is at least 0
 pub drift_at_least : (H : ℤ) (r : Neighbourhood) (reach : ℕ) → pos 0 ≤ℤ H → IsNeighbourhood r → pos 0 ≤ℤ drift_units H r reach
@@ -205,3 +211,45 @@ needed_iff n (pos d) e m t positive =
     back : (e r m t : ℤ) → r ≤ℤ (t -ℤ (e +ℤ m)) → (e +ℤ (r +ℤ m)) ≤ℤ t
     back e r m t h = omega (arith, ints)
 needed_iff n (negsuc d) e m t positive = absurd positive.le
+
+-- ---- a number that is enough
+
+-- n / d rounded down, and one more, is at least n / d rounded up
+above_rounded : (n d : ℕ) → 0 < d → rounded_up (pos n) (pos d) ≤ℤ pos (n / d + 1)
+above_rounded n d some = rounded_at_most true (pos (n / d + 1)) (rounded_up (pos n) (pos d)) (pos n) d some (rounded_up_is_ceiling (pos n) (pos d) (omega
+    (arith, ints))) (reached n d (n / d) (omega (arith, div-add-mod' n d, mod-lt n some)))
+  where
+    reached : (n d q : ℕ) → n ≤ q * d + d → pos n ≤ℤ (pos (q + 1) *ℤ pos d)
+    reached n d q h = omega (arith, ints)
+
+-- an allowance, and a drift that is rounded down, and one more
+pub record IsEnough (A q e d n m : ℤ) : Type 0 where
+  pub quotient : FitsSigned w128 q
+  pub drift : FitsSigned w128 (q +ℤ pos 1)
+  pub allowance : FitsSigned w128 A
+  pub sum : FitsSigned w128 (A +ℤ (q +ℤ pos 1))
+  pub enough : (e +ℤ (rounded_up n d +ℤ m)) ≤ℤ (A +ℤ (q +ℤ pos 1))
+  pub small : unsigned_abs q ≤ 2 ^ 90
+
+pub enough_of : (A e m n d : ℤ) (q : ℕ) → unsigned_abs A ≤ 2 ^ 77 → A ≡ e +ℤ m → pos 0 ≤ℤ n → unsigned_abs n ≤ 2 ^ 90 → pos 1 ≤ℤ d
+    → q ≡ unsigned_abs n / unsigned_abs d → IsEnough A (pos q) e d n m
+enough_of A e m (pos n) (pos d) q small A_is low size positive q_is =
+    let some : 0 < d = omega (arith, ints) in
+    let less : q ≤ n = omega (arith, q_is, div-le_self n d) in
+    let more : rounded_up (pos n) (pos d) ≤ℤ pos (q + 1) = subst (λ q. rounded_up (pos n) (pos d) ≤ℤ pos (q + 1)) (sym q_is) (above_rounded n d some) in
+    record {
+      quotient = fits_128 (pos q) (omega arith);
+      drift = fits_128 (pos (q + 1)) (omega arith);
+      allowance = fits_128 A (omega arith);
+      sum = fits_128 (A +ℤ pos (q + 1)) (added A q small (omega arith));
+      enough = reached A e m (rounded_up (pos n) (pos d)) (pos (q + 1)) A_is more;
+      small = omega arith;
+    }
+  where
+    added : (A : ℤ) (q : ℕ) → unsigned_abs A ≤ 2 ^ 77 → q ≤ 2 ^ 90 → unsigned_abs (A +ℤ pos (q + 1)) ≤ 2 ^ 120
+    added A q h k = omega (arith, ints)
+
+    reached : (A e m r t : ℤ) → A ≡ e +ℤ m → r ≤ℤ t → (e +ℤ (r +ℤ m)) ≤ℤ (A +ℤ t)
+    reached A e m r t h k = omega (arith, ints)
+enough_of A e m (pos n) (negsuc d) q small A_is low size positive q_is = absurd positive.le
+enough_of A e m (negsuc n) d q small A_is low size positive q_is = absurd low.le

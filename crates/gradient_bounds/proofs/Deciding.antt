@@ -21,7 +21,7 @@ use Rattle.defining_functions.specs.Sizes.{sizes_of, AreAtMost}
 use Rattle.gradient_bounds.specs.declared.neighbourhood.Neighbourhood.{Neighbourhood}
 use Rattle.gradient_bounds.specs.Neighbourhood.{IsNeighbourhood}
 use Rattle.gradient_bounds.specs.Decision.{rounded_up, drift_units, margin_units, needed_units, needed, difference, Reaches, FallsBelow}
-use Rattle.gradient_bounds.specs.Decision.{SomeFallsBelow, SomeInRowFalls, IsGreatest}
+use Rattle.gradient_bounds.specs.Decision.{SomeFallsBelow, SomeInRowFalls, IsGreatest, ReachesInRow}
 use Rattle.gradient_bounds.proofs.Computed.{rounded_up_is_ceiling, drift_at_least, pi_at_least, needed_iff}
 
 -- ---- one pair
@@ -217,3 +217,11 @@ row_least w uppers lowers k nearest l least is greatest lower = subst (λ z. z �
   where
     in_order : (a c d : ℤ) → c ≤ℤ d → (a -ℤ d) ≤ℤ (a -ℤ c)
     in_order a c d h = omega (arith, ints)
+
+-- a row is reached where that difference is at least what reaches what each function of the row needs
+pub row_reached_by : (needs : FormalPoint → ℤ) (w : List ℕ) (uppers lowers : List ℤ) (k nearest : ℕ) (least most : ℤ)
+    → least ≡ difference uppers lowers k nearest → IsGreatest w lowers nearest → ReachesInRow needs w k most → most ≤ℤ least
+    → (l : ℕ) → IsPlace w l → Reaches needs w k l (difference uppers lowers k l)
+row_reached_by needs w uppers lowers k nearest least most is greatest enough reached l lower =
+    reaches_more needs w k l least (difference uppers lowers k l) (row_least w uppers lowers k nearest l least is greatest lower)
+    (reaches_more needs w k l most least reached (enough l lower))

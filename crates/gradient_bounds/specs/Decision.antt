@@ -60,6 +60,14 @@ difference uppers lowers k l = slice_index_or uppers (k - 1) (pos 0) -ℤ slice_
 abbrev pub Reaches : (FormalPoint → ℤ) → List ℕ → ℕ → ℕ → ℤ → Type 0
 Reaches needs w k l z = (v : FormalPoint) → IsShift w v → needs (defining_function v w k l) ≤ℤ z
 
+-- it reaches what each function of the k-th upper corner needs
+abbrev pub ReachesInRow : (FormalPoint → ℤ) → List ℕ → ℕ → ℤ → Type 0
+ReachesInRow needs w k z = (l : ℕ) → IsPlace w l → Reaches needs w k l z
+
+-- and what each function of the word needs
+abbrev pub ReachesAll : (FormalPoint → ℤ) → List ℕ → ℤ → Type 0
+ReachesAll needs w z = (k : ℕ) → IsPlace w k → ReachesInRow needs w k z
+
 -- it lies as far below 0
 abbrev pub FallsBelow : (FormalPoint → ℤ) → List ℕ → ℕ → ℕ → ℤ → Type 0
 FallsBelow needs w k l z = (v : FormalPoint) → IsShift w v → z ≤ℤ neg_ℤ (needs (defining_function v w k l))

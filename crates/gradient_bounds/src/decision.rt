@@ -3,21 +3,22 @@
 //! The least upper number and the greatest lower one are nearest to each other. Where their difference misses what their own
 //! function needs, not each difference reaches what its function needs. Where it reaches what the greatest sizes would
 //! need, each does. In between a test goes over the upper corners: a row passes where its difference from the greatest
-//! lower number reaches what the greatest sizes of the row would need, and only else it is gone through pair by pair.
+//! lower number reaches as much, or what the greatest sizes of the row would need, and only else it is gone through pair by
+//! pair.
 //! Corners at which several edges end are looked at once.
 ghost use Rattle.std.specs.Prelude.{◌≡◌, ◌↔◌, ℕ, ◌^◌, ◌≤◌, ◌≤ℤ◌, length, unsigned_abs, IsTrue};
 ghost use Rattle.std.specs.List.{All};
 ghost use Rattle.edge_words.specs.Letters.{IsPlace};
 ghost use Rattle.unfolding.specs.Shift.{HasShift};
 ghost use Rattle.defining_functions.specs.Heights.{upper_height, lower_height};
-ghost use Rattle.gradient_bounds.specs.Decision.{AreNumbers, difference, Reaches, FallsBelow, EachReaches, SomeInRowFalls, SomeFallsBelow, IsGreatest};
-ghost use Rattle.gradient_bounds.specs.Decision.{needed};
+ghost use Rattle.gradient_bounds.specs.Decision.{AreNumbers, difference, Reaches, ReachesInRow, ReachesAll, EachReaches, IsGreatest};
+ghost use Rattle.gradient_bounds.specs.Decision.{needed, FallsBelow, SomeInRowFalls, SomeFallsBelow};
 ghost use Rattle.gradient_bounds.specs.Neighbourhood.{IsNeighbourhood};
 
 use crate::extremes::{greatest, least};
 use crate::most::{most_in_row, most_of};
 use crate::neighbourhood::Neighbourhood;
-use crate::thresholds::reaches_needed;
+use crate::thresholds::{enough, reaches_needed};
 use defining_functions::Functions;
 use directed_fixed::Scale;
 
@@ -38,10 +39,11 @@ pub fn each_reaches<S: Scale>(
     if !reaches::<S>(functions, k, l, least, neighbourhood) {
         return false;
     }
-    if suffices::<S>(functions, least, neighbourhood) {
+    let most = enough_for_all::<S>(functions, neighbourhood);
+    if is_at_least(least, most) {
         return true;
     }
-    all_reach::<S>(functions, uppers, lowers, l, neighbourhood)
+    all_reach::<S>(functions, uppers, lowers, l, most, neighbourhood)
 }
 
 /// Whether one difference lies as far below 0.
@@ -95,32 +97,28 @@ fn difference(uppers: &[i128], lowers: &[i128], k: u32, l: u32) -> i128
     uppers[k as usize - 1] - lowers[l as usize - 1]
 }
 
-/// Whether a difference is seen to reach what each function needs, since it reaches what the greatest sizes would need.
-fn suffices<S: Scale>(
-    functions: &Functions,
-    difference: i128,
-    neighbourhood: &Neighbourhood,
-) -> bool
-    requires size { unsigned_abs difference ≤ 2 ^ 77 }
+/// A number that reaches what each function needs: what the greatest sizes would need, and at most a unit more.
+fn enough_for_all<S: Scale>(functions: &Functions, neighbourhood: &Neighbourhood) -> i128
     requires neighbourhood { IsNeighbourhood neighbourhood.now }
-    ensures { IsTrue result → (k l : ℕ) → IsPlace functions.now k → IsPlace functions.now l → Reaches (needed S.BITS S.LOW_BITS S.PI_HI neighbourhood.now) functions.now k l difference }
+    ensures { ReachesAll (needed S.BITS S.LOW_BITS S.PI_HI neighbourhood.now) functions.now result }
 {
-    reaches_needed::<S>(difference, &most_of(functions), neighbourhood)
+    enough::<S>(&most_of(functions), neighbourhood)
 }
 
-/// Whether it is seen to reach what each function of the k-th upper corner needs.
-fn suffices_in_row<S: Scale>(
-    functions: &Functions,
-    k: u32,
-    difference: i128,
-    neighbourhood: &Neighbourhood,
-) -> bool
+/// A number that reaches what each function of the k-th upper corner needs.
+fn enough_in_row<S: Scale>(functions: &Functions, k: u32, neighbourhood: &Neighbourhood) -> i128
     requires place { IsPlace functions.now k }
-    requires size { unsigned_abs difference ≤ 2 ^ 77 }
     requires neighbourhood { IsNeighbourhood neighbourhood.now }
-    ensures { IsTrue result → (l : ℕ) → IsPlace functions.now l → Reaches (needed S.BITS S.LOW_BITS S.PI_HI neighbourhood.now) functions.now k l difference }
+    ensures { ReachesInRow (needed S.BITS S.LOW_BITS S.PI_HI neighbourhood.now) functions.now k result }
 {
-    reaches_needed::<S>(difference, &most_in_row(functions, k), neighbourhood)
+    enough::<S>(&most_in_row(functions, k), neighbourhood)
+}
+
+/// Whether a difference is at least another number.
+fn is_at_least(difference: i128, most: i128) -> bool
+    ensures { IsTrue result ↔ (most ≤ℤ difference) }
+{
+    difference >= most
 }
 
 /// Whether a difference reaches what the function of the k-th upper and the l-th lower corner needs.
@@ -140,6 +138,25 @@ fn reaches<S: Scale>(
     reaches_needed::<S>(difference, &functions.sizes(k, l), neighbourhood)
 }
 
+/// The same, where `most` is known to be as much.
+fn surely_reaches<S: Scale>(
+    functions: &Functions,
+    k: u32,
+    l: u32,
+    difference: i128,
+    most: i128,
+    neighbourhood: &Neighbourhood,
+) -> bool
+    requires upper { IsPlace functions.now k }
+    requires lower { IsPlace functions.now l }
+    requires most { Reaches (needed S.BITS S.LOW_BITS S.PI_HI neighbourhood.now) functions.now k l most }
+    requires size { unsigned_abs difference ≤ 2 ^ 77 }
+    requires neighbourhood { IsNeighbourhood neighbourhood.now }
+    ensures { IsTrue result ↔ Reaches (needed S.BITS S.LOW_BITS S.PI_HI neighbourhood.now) functions.now k l difference }
+{
+    is_at_least(difference, most) || reaches::<S>(functions, k, l, difference, neighbourhood)
+}
+
 /// Whether it lies as far below 0.
 fn falls_below<S: Scale>(
     functions: &Functions,
@@ -157,15 +174,18 @@ fn falls_below<S: Scale>(
     reaches_needed::<S>(-difference, &functions.sizes(k, l), neighbourhood)
 }
 
-/// Whether each difference of the k-th upper number reaches what its function needs.
+/// Whether each difference of the k-th upper number reaches what its function needs, where `most` is at least as much as each of the
+/// row needs.
 fn each_in_row_reaches<S: Scale>(
     functions: &Functions,
     uppers: &[i128],
     lowers: &[i128],
     k: u32,
+    most: i128,
     neighbourhood: &Neighbourhood,
 ) -> bool
     requires place { IsPlace functions.now k }
+    requires most { ReachesInRow (needed S.BITS S.LOW_BITS S.PI_HI neighbourhood.now) functions.now k most }
     requires uppers { AreNumbers functions.now upper_height uppers.now }
     requires lowers { AreNumbers functions.now lower_height lowers.now }
     requires neighbourhood { IsNeighbourhood neighbourhood.now }
@@ -174,7 +194,7 @@ fn each_in_row_reaches<S: Scale>(
     let edges = functions.lower_edges();
     for &l in edges {
         let gap = difference(uppers, lowers, k, l);
-        if !reaches::<S>(functions, k, l, gap, neighbourhood) {
+        if !surely_reaches::<S>(functions, k, l, gap, most, neighbourhood) {
             return false;
         }
     }
@@ -189,9 +209,11 @@ fn row_reaches<S: Scale>(
     lowers: &[i128],
     k: u32,
     nearest: u32,
+    most: i128,
     neighbourhood: &Neighbourhood,
 ) -> bool
     requires place { IsPlace functions.now k }
+    requires most { ReachesInRow (needed S.BITS S.LOW_BITS S.PI_HI neighbourhood.now) functions.now k most }
     requires nearest { IsPlace functions.now nearest }
     requires greatest { IsGreatest functions.now lowers.now nearest }
     requires uppers { AreNumbers functions.now upper_height uppers.now }
@@ -200,10 +222,14 @@ fn row_reaches<S: Scale>(
     ensures { IsTrue result ↔ ((l : ℕ) → IsPlace functions.now l → Reaches (needed S.BITS S.LOW_BITS S.PI_HI neighbourhood.now) functions.now k l (difference uppers.now lowers.now k l)) }
 {
     let least = difference(uppers, lowers, k, nearest);
-    if suffices_in_row::<S>(functions, k, least, neighbourhood) {
+    if is_at_least(least, most) {
         return true;
     }
-    each_in_row_reaches::<S>(functions, uppers, lowers, k, neighbourhood)
+    let most = enough_in_row::<S>(functions, k, neighbourhood);
+    if is_at_least(least, most) {
+        return true;
+    }
+    each_in_row_reaches::<S>(functions, uppers, lowers, k, most, neighbourhood)
 }
 
 /// Whether this is so for each upper number.
@@ -212,8 +238,10 @@ fn all_reach<S: Scale>(
     uppers: &[i128],
     lowers: &[i128],
     nearest: u32,
+    most: i128,
     neighbourhood: &Neighbourhood,
 ) -> bool
+    requires most { ReachesAll (needed S.BITS S.LOW_BITS S.PI_HI neighbourhood.now) functions.now most }
     requires nearest { IsPlace functions.now nearest }
     requires greatest { IsGreatest functions.now lowers.now nearest }
     requires uppers { AreNumbers functions.now upper_height uppers.now }
@@ -223,7 +251,7 @@ fn all_reach<S: Scale>(
 {
     let edges = functions.upper_edges();
     for &k in edges {
-        if !row_reaches::<S>(functions, uppers, lowers, k, nearest, neighbourhood) {
+        if !row_reaches::<S>(functions, uppers, lowers, k, nearest, most, neighbourhood) {
             return false;
         }
     }

@@ -1,5 +1,5 @@
 //! What the difference of two heights' numbers has to reach at the centre of a neighbourhood, in units.
-ghost use Rattle.std.specs.Prelude.{◌≡◌, ◌↔◌, ◌-◌, ◌*◌, ◌^◌, ◌≤◌, pos, ◌+ℤ◌, ◌*ℤ◌, ◌≤ℤ◌, unsigned_abs, IsTrue};
+ghost use Rattle.std.specs.Prelude.{◌≡◌, ◌↔◌, ◌-◌, ◌*◌, ◌/◌, ◌^◌, ◌≤◌, pos, ◌+ℤ◌, ◌*ℤ◌, ◌≤ℤ◌, unsigned_abs, IsTrue};
 ghost use Rattle.defining_functions.specs.Sizes.{AreSmall};
 ghost use Rattle.gradient_bounds.specs.Decision.{margin_units, needed_units};
 ghost use Rattle.gradient_bounds.specs.Neighbourhood.{IsNeighbourhood};
@@ -39,9 +39,35 @@ fn allowance<S: Scale>(weight: u64) -> i128
 fn drift_product<S: Scale>(reach: u64, neighbourhood: &Neighbourhood) -> i128
     requires reach { reach ≤ 8519680 }
     requires neighbourhood { IsNeighbourhood neighbourhood.now }
-    ensures { result ≡ S.PI_HI *ℤ (pos reach *ℤ neighbourhood.now.radius) }
+    ensures is { result ≡ S.PI_HI *ℤ (pos reach *ℤ neighbourhood.now.radius) }
+    ensures at_least { pos 0 ≤ℤ result }
+    ensures size { unsigned_abs result ≤ 2 ^ 90 }
 {
     S::PI_HI * (i128::from(reach) * neighbourhood.radius)
+}
+
+/// `n / d`, rounded down. Where d is a power of two, as at the centres of boxes, it is a shift.
+fn quotient(n: u128, d: u128) -> u128
+    requires { 1 ≤ d }
+    ensures { result ≡ n / d }
+{
+    let bits = d.trailing_zeros();
+    if bits < 64 && d == 1 << bits {
+        n >> bits
+    } else {
+        n / d
+    }
+}
+
+/// A number that is at least what a function of this weight and this reach needs, and at most a unit more.
+pub fn enough<S: Scale>(sizes: &Sizes, neighbourhood: &Neighbourhood) -> i128
+    requires sizes { AreSmall sizes.now }
+    requires neighbourhood { IsNeighbourhood neighbourhood.now }
+    ensures { needed_units S.BITS S.LOW_BITS S.PI_HI neighbourhood.now sizes.now.weight sizes.now.reach ≤ℤ result }
+{
+    let product = drift_product::<S>(sizes.reach, neighbourhood).unsigned_abs();
+    let drift = quotient(product, neighbourhood.centre.den.unsigned_abs()) as i128 + 1;
+    allowance::<S>(sizes.weight) + drift
 }
 
 /// Whether a difference reaches what a function of this weight and this reach needs: its drift, rounded up, its margin and

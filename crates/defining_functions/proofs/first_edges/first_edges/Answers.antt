@@ -1,7 +1,7 @@
 use Rattle.std.proofs.Common.{ℕ, ◌+◌, sym, ap, subst, ◌∙◌}
 use Rattle.std.specs.Global.{Vec}
 use Rattle.defining_functions.specs.Kept.{HaveAllPlaces}
-use Rattle.defining_functions.proofs.Edges.{places_again, places_more}
+use Rattle.defining_functions.proofs.AllHeights.{places_again, places_more}
 use Rattle.defining_functions.proofs.first_edges.first_edges.Goals.{then-not-is_again+in_ok-push, else-not-is_again}
 use Rattle.defining_functions.proofs.first_edges.first_edges.Goals as goal
 

@@ -7,8 +7,8 @@ use Rattle.gradient_bounds.proofs.AllEdges.{row_reached}
 use Rattle.gradient_bounds.proofs.Deciding.{holds, then_not}
 use Rattle.gradient_bounds.proofs.decision.each_in_row_reaches.Goals as goal
 
-pub returns-then-not-reaches : goal.returns-then-not-reaches
-returns-then-not-reaches g c =
+pub returns-then-not-surely_reaches : goal.returns-then-not-surely_reaches
+returns-then-not-surely_reaches g c =
     let w = c.args.functions.now in
     let k = c.args.k in
     let N = needed g.S.Scale.BITS g.S.Scale.LOW_BITS g.S.Scale.PI_HI c.args.neighbourhood.now in
@@ -17,7 +17,7 @@ returns-then-not-reaches g c =
     let gap : FitsSigned w128 c.difference-gap.result = record { sfits = c.difference-gap.type_inv } in
     let place : IsPlace w e = c.lower_edges-edges.ensures.heights.places c.loop-l.l-index 0 c.loop-l-test.true in
     then_not (Reaches N w k e c.difference-gap.result) ((l : ℕ) → IsPlace w l → Reaches N w k l (difference c.args.uppers.now c.args.lowers.now k l))
-    (simp to_z-of_z at c.if-not-reaches.ensures)
+    (simp to_z-of_z at c.if-not-surely_reaches.ensures)
     (λ each. subst (Reaches N w k e) (sym c.difference-gap.ensures.is) (each e place))
 
 pub loop-l-preserved : goal.loop-l-preserved
@@ -28,7 +28,7 @@ loop-l-preserved g c =
     let edges = c.lower_edges-edges.result.now in
     let e = slice_index_or edges c.loop-l.l-index 0 in
     let gap : FitsSigned w128 c.difference-gap.result = record { sfits = c.difference-gap.type_inv } in
-    let iff = simp to_z-of_z at c.if-not-reaches.ensures in
+    let iff = simp to_z-of_z at c.if-not-surely_reaches.ensures in
     below_more (λ j. Reaches N w k (slice_index_or edges j 0) (difference c.args.uppers.now c.args.lowers.now k (slice_index_or edges j 0)))
     c.loop-l.l-index c.loop-l.invariant (subst (Reaches N w k e) c.difference-gap.ensures.is (iff.0 refl))
 

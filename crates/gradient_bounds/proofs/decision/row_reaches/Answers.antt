@@ -3,19 +3,30 @@ use Rattle.std.specs.Int.{w128}
 use Rattle.std.proofs.lemmas.Int.{to_z-of_z}
 use Rattle.edge_words.specs.Letters.{IsPlace}
 use Rattle.gradient_bounds.specs.Decision.{needed, difference, Reaches}
-use Rattle.gradient_bounds.proofs.Deciding.{holds, reaches_more, row_least}
+use Rattle.gradient_bounds.proofs.Deciding.{holds, row_reached_by}
 use Rattle.gradient_bounds.proofs.decision.row_reaches.Goals as goal
 
-pub returns-then-suffices_in_row : goal.returns-then-suffices_in_row
-returns-then-suffices_in_row g c =
-    let w = c.args.functions.now in
-    let k = c.args.k in
-    let us = c.args.uppers.now in
-    let ls = c.args.lowers.now in
+pub returns-then-is_at_least : goal.returns-then-is_at_least
+returns-then-is_at_least g c =
     let N = needed g.S.Scale.BITS g.S.Scale.LOW_BITS g.S.Scale.PI_HI c.args.neighbourhood.now in
     let least : FitsSigned w128 c.difference-least.result = record { sfits = c.difference-least.type_inv } in
-    let passes = simp to_z-of_z at c.suffices_in_row.ensures in
-    holds ((l : ℕ) → IsPlace w l → Reaches N w k l (difference us ls k l))
-    (λ l lower. reaches_more N w k l c.difference-least.result (difference us ls k l)
-    (row_least w us ls k c.args.nearest l c.difference-least.result c.difference-least.ensures.is c.requires.greatest lower)
-    (passes c.if-suffices_in_row.true l lower))
+    let most : FitsSigned w128 c.args.most = c.ranges.most in
+    let iff = simp to_z-of_z at c.is_at_least.ensures in
+    holds ((l : ℕ) → IsPlace c.args.functions.now l → Reaches N c.args.functions.now c.args.k l (difference c.args.uppers.now c.args.lowers.now c.args.k l))
+    (row_reached_by N c.args.functions.now c.args.uppers.now c.args.lowers.now c.args.k c.args.nearest c.difference-least.result c.args.most
+    c.difference-least.ensures.is c.requires.greatest c.requires.most (iff.0 c.if-is_at_least.true))
+
+pub returns-then-is_at_least-2 : goal.returns-then-is_at_least-2
+returns-then-is_at_least-2 g c =
+    let N = needed g.S.Scale.BITS g.S.Scale.LOW_BITS g.S.Scale.PI_HI c.args.neighbourhood.now in
+    let least : FitsSigned w128 c.difference-least.result = record { sfits = c.difference-least.type_inv } in
+    let most : FitsSigned w128 c.enough_in_row-most.result = record { sfits = c.enough_in_row-most.type_inv } in
+    let iff = simp to_z-of_z at c.is_at_least-2.ensures in
+    holds ((l : ℕ) → IsPlace c.args.functions.now l → Reaches N c.args.functions.now c.args.k l (difference c.args.uppers.now c.args.lowers.now c.args.k l))
+    (row_reached_by N c.args.functions.now c.args.uppers.now c.args.lowers.now c.args.k c.args.nearest c.difference-least.result c.enough_in_row-most.result
+    c.difference-least.ensures.is c.requires.greatest c.enough_in_row-most.ensures (iff.0 c.if-is_at_least-2.true))
+
+pub each_in_row_reaches-requires-clause-most : goal.each_in_row_reaches-requires-clause-most
+each_in_row_reaches-requires-clause-most g c =
+    let most : FitsSigned w128 c.enough_in_row-most.result = record { sfits = c.enough_in_row-most.type_inv } in
+    simp to_z-of_z c.enough_in_row-most.ensures

@@ -1,6 +1,6 @@
 use Rattle.std.proofs.Common.{ap₂, ◌*ℤ◌}
 use Rattle.std.proofs.lemmas.Int.{to_z-of_z}
-use Rattle.gradient_bounds.proofs.Computed.{IsDividend, dividend_at}
+use Rattle.gradient_bounds.proofs.Computed.{IsDividend, dividend_at, dividend_at_least, pi_at_least}
 use Rattle.gradient_bounds.proofs.thresholds.drift_product.Given as given
 use Rattle.gradient_bounds.proofs.thresholds.drift_product.Goals as goal
 
@@ -19,8 +19,8 @@ overflow_mul-result-2 g c =
     let factor = is.factor in
     simp to_z-of_z is.product
 
-pub returns : goal.returns
-returns g c =
+pub returns-clause-is : goal.returns-clause-is
+returns-clause-is g c =
     let is = computed g c in
     let pi = is.pi in
     let reach = is.reach in
@@ -28,3 +28,25 @@ returns g c =
     let factor = is.factor in
     let product = is.product in
     simp to_z-of_z (ap₂ (λ a b. a *ℤ (b *ℤ c.args.neighbourhood.now.radius)) c.PI_HI.ensures c.from.ensures)
+
+pub returns-clause-at_least : goal.returns-clause-at_least
+returns-clause-at_least g c =
+    let is = computed g c in
+    let pi = is.pi in
+    let reach = is.reach in
+    let radius = is.radius in
+    let factor = is.factor in
+    let product = is.product in
+    let near = c.requires.neighbourhood in
+    simp to_z-of_z (dividend_at_least c.PI_HI.result c.from.result c.args.neighbourhood.now.radius g.S.Scale.PI_HI c.args.reach
+    (pi_at_least g.S.Scale.BITS g.S.Scale.PI_LO g.S.Scale.PI_HI g.S.Scale.one_unit g.S.Scale.pi_between) near.at_least c.PI_HI.ensures c.from.ensures)
+
+pub returns-clause-size : goal.returns-clause-size
+returns-clause-size g c =
+    let is = computed g c in
+    let pi = is.pi in
+    let reach = is.reach in
+    let radius = is.radius in
+    let factor = is.factor in
+    let product = is.product in
+    simp to_z-of_z is.size

@@ -32,4 +32,4 @@ returns g c =
     let product = is.product in
     let other = is.other in
     simp to_z-of_z (needed_test g.S.Scale.BITS g.S.Scale.LOW_BITS g.S.Scale.PI_HI c.args.neighbourhood.now c.args.sizes.now.weight c.args.sizes.now.reach
-    c.args.difference c.allowance.result c.drift_product.result c.requires.neighbourhood c.allowance.ensures.is c.drift_product.ensures)
+    c.args.difference c.allowance.result c.drift_product.result c.requires.neighbourhood c.allowance.ensures.is c.drift_product.ensures.is)

@@ -1,8 +1,8 @@
 use Rattle.std.proofs.Common.{sym, subst, subst₂}
 use Rattle.unfolding.specs.Shift.{HasShift}
-use Rattle.defining_functions.specs.Edges.{HaveAllHeights}
+use Rattle.defining_functions.specs.AllHeights.{HaveAllHeights}
 use Rattle.defining_functions.specs.Heights.{upper_height}
-use Rattle.defining_functions.proofs.Edges.{have_all_heights}
+use Rattle.defining_functions.proofs.AllHeights.{have_all_heights}
 use Rattle.defining_functions.proofs.functions.Functions.upper_edges.Goals as goal
 
 pub returns-clause-heights : goal.returns-clause-heights

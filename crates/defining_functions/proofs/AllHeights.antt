@@ -8,7 +8,7 @@ use Rattle.std.proofs.lemmas.List.Quantifiers.{Any-push}
 use Rattle.edge_words.specs.Letters.{IsPlace}
 use Rattle.exp_sums.specs.FormalPoint.{FormalPoint, zero_point}
 use Rattle.unfolding.specs.Shift.{IsShift}
-use Rattle.defining_functions.specs.Edges.{HaveAllHeights}
+use Rattle.defining_functions.specs.AllHeights.{HaveAllHeights}
 use Rattle.defining_functions.specs.Kept.{IsSide, HaveAllPlaces}
 use Rattle.defining_functions.proofs.Kept.{side_at, place_of_index}
 
