@@ -3,7 +3,7 @@ use Rattle.std.specs.Int.{w128}
 use Rattle.std.proofs.lemmas.Int.{ints, to_z-of_z, to_z_pos}
 use Rattle.gradient_bounds.specs.Decision.{rounded_up, margin_units}
 use Rattle.gradient_bounds.proofs.Computed.{enough_of}
-use Rattle.gradient_bounds.proofs.Turning.{angles_fit}
+use Rattle.sine_fixed.proofs.Turning.{angles_fit}
 use Rattle.gradient_bounds.proofs.thresholds.enough.Goals as goal
 
 pub returns : goal.returns
