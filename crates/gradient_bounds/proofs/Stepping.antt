@@ -25,6 +25,7 @@ use Rattle.gradient_bounds.specs.Kept.{IsSmallEntry, IsNumberOf}
 use Rattle.gradient_bounds.specs.Table.{low_in, number_in}
 use Rattle.gradient_bounds.proofs.Numbering.{table_step}
 use Rattle.gradient_bounds.proofs.Sums.{low_small}
+use Rattle.sine_fixed.proofs.Turning.{fits_128}
 use Rattle.sine_fixed.proofs.Weighing.{sum_small}
 
 -- ---- how large the numbers of heights are
@@ -52,9 +53,6 @@ module _ (w : List ℕ) (table : List SineLow) (word : IsWord w) (has : HasShift
       }
 
 -- ---- one step
-
-pub fits_128 : (z : ℤ) → unsigned_abs z ≤ 2 ^ 120 → FitsSigned w128 z
-fits_128 z h = fits_signed_from_abs w128 z (omega arith)
 
 pub difference_fits : (a b : ℤ) → unsigned_abs a ≤ 2 ^ 77 → unsigned_abs b ≤ 2 ^ 77 → FitsSigned w128 (a -ℤ b)
 difference_fits a b h k = fits_128 (a -ℤ b) (omega (arith, ints))

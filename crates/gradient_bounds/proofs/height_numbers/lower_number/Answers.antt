@@ -2,7 +2,8 @@ use Rattle.std.proofs.Common.{◌+◌, FitsSigned, ◌-ℤ◌, subst, arith}
 use Rattle.std.specs.Int.{w128}
 use Rattle.std.proofs.lemmas.Int.{to_z-of_z}
 use Rattle.defining_functions.specs.Steps.{SharesEnd}
-use Rattle.gradient_bounds.proofs.Stepping.{fits_128, difference_fits, below_upper, lower_number_of}
+use Rattle.sine_fixed.proofs.Turning.{fits_128}
+use Rattle.gradient_bounds.proofs.Stepping.{difference_fits, below_upper, lower_number_of}
 use Rattle.gradient_bounds.proofs.height_numbers.lower_number.Goals as goal
 
 pub returns-in-Upper : goal.returns-in-Upper

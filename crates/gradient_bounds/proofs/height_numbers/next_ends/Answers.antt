@@ -1,7 +1,8 @@
 use Rattle.std.proofs.Common.{◌+◌, FitsSigned, ◌+ℤ◌, arith}
 use Rattle.std.specs.Int.{w128}
 use Rattle.std.proofs.lemmas.Int.{to_z-of_z}
-use Rattle.gradient_bounds.proofs.Stepping.{fits_128, sum_fits, above_lower, upper_number_of}
+use Rattle.sine_fixed.proofs.Turning.{fits_128}
+use Rattle.gradient_bounds.proofs.Stepping.{sum_fits, above_lower, upper_number_of}
 use Rattle.gradient_bounds.proofs.height_numbers.next_ends.Goals as goal
 
 pub returns : goal.returns

@@ -4,7 +4,8 @@ use Rattle.std.proofs.lemmas.Int.{to_z-of_z}
 use Rattle.defining_functions.specs.Heights.{upper_height, lower_height}
 use Rattle.defining_functions.specs.declared.shared_end.SharedEnd.TheVariants.{Upper}
 use Rattle.gradient_bounds.proofs.Numbering.{next_number}
-use Rattle.gradient_bounds.proofs.Stepping.{way_of, fits_128}
+use Rattle.sine_fixed.proofs.Turning.{fits_128}
+use Rattle.gradient_bounds.proofs.Stepping.{way_of}
 use Rattle.gradient_bounds.proofs.height_numbers.number_heights.Goals as goal
 
 pub overflow_sub-way : goal.overflow_sub-way
