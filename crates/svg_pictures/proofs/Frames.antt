@@ -45,7 +45,8 @@ greatest_one number s = record {
     same : (z : ℤ) → z ≤ℤ z
     same z = omega (arith, ints)
 
-least_more : (number : PicturePoint → ℤ) (seen : List PicturePoint) (z : ℤ) (s : PicturePoint) → IsLeast number seen z → IsLeast number (seen ++ s ∷ []) (int_min z (number s))
+least_more : (number : PicturePoint → ℤ) (seen : List PicturePoint) (z : ℤ) (s : PicturePoint) → IsLeast number seen z
+    → IsLeast number (seen ++ s ∷ []) (int_min z (number s))
 least_more number seen z s h =
     let P : PicturePoint → Type 0 = λ t. int_min z (number s) ≤ℤ number t in
     record {
@@ -78,16 +79,17 @@ greatest_more number seen z s h =
     greater : (a b : ℤ) → b ≤ℤ int_max a b
     greater a b = omega (arith, ints, clamps)
 
-least_twice : (number : PicturePoint → ℤ) (s : PicturePoint) (seen : List PicturePoint) (z : ℤ) → IsLeast number (s ∷ (s ∷ seen)) z → IsLeast number (s ∷ seen) z
+least_twice : (number : PicturePoint → ℤ) (s : PicturePoint) (seen : List PicturePoint) (z : ℤ) → IsLeast number (s ∷ (s ∷ seen)) z
+    → IsLeast number (s ∷ seen) z
 least_twice number s seen z h =
     record { all = All-tail (λ t. z ≤ℤ number t) s (s ∷ seen) h.all; one = any_twice (λ t. number t ≡ z) s seen h.one }
 
-greatest_twice : (number : PicturePoint → ℤ) (s : PicturePoint) (seen : List PicturePoint) (z : ℤ) → IsGreatest number (s ∷ (s ∷ seen)) z → IsGreatest number (s ∷ seen) z
+greatest_twice : (number : PicturePoint → ℤ) (s : PicturePoint) (seen : List PicturePoint) (z : ℤ) → IsGreatest number (s ∷ (s ∷ seen)) z
+    → IsGreatest number (s ∷ seen) z
 greatest_twice number s seen z h =
     record { all = All-tail (λ t. number t ≤ℤ z) s (s ∷ seen) h.all; one = any_twice (λ t. number t ≡ z) s seen h.one }
 
 -- ---- frames
-
 
 -- the frame of one point
 abbrev around : PicturePoint → Frame
@@ -122,7 +124,8 @@ frame_twice s seen f h = record {
 }
 
 -- with the three points of the next triangle
-pub frame_next : (first : PicturePoint) (ts : List DrawnTriangle) (i : ℕ) (d : DrawnTriangle) (f : Frame) → i < length ts → IsFrame (first ∷ points_of (take i ts)) f
+pub frame_next : (first : PicturePoint) (ts : List DrawnTriangle) (i : ℕ) (d : DrawnTriangle) (f : Frame) → i < length ts
+    → IsFrame (first ∷ points_of (take i ts)) f
     → let t = get_or ts i d in IsFrame (first ∷ points_of (take (i + 1) ts)) (widened (widened (widened f t.first) t.second) t.third)
 frame_next first ts i d f within h =
     let t = get_or ts i d in
@@ -133,7 +136,8 @@ frame_next first ts i d f within h =
     (frame_more (seen ++ t.first ∷ []) one t.second (frame_more seen f t.first h)) in
     let listed : ((seen ++ t.first ∷ []) ++ t.second ∷ []) ++ t.third ∷ [] ≡ first ∷ points_of (take (i + 1) ts) =
     grouped seen t.first t.second t.third
-    ∙ ap (λ (rest : List PicturePoint). first ∷ rest) (sym (ap points_of (take_more ts i d within) ∙ flat_map-append (λ u. u.first ∷ u.second ∷ u.third ∷ []) (take i ts) (t ∷ [])))
+    ∙ ap (λ (rest : List PicturePoint). first ∷ rest)
+    (sym (ap points_of (take_more ts i d within) ∙ flat_map-append (λ u. u.first ∷ u.second ∷ u.third ∷ []) (take i ts) (t ∷ [])))
     in
     subst (λ (points : List PicturePoint). IsFrame points (widened two t.third)) listed all
   where

@@ -1,5 +1,5 @@
 -- 1000 times a number in units of 2^−60, rounded to a whole number.
-use Rattle.std.proofs.Common.{◌≡◌, refl, sym, ap, ◌∙◌, subst, ◌^◌, ◌≤◌, [], ◌∷◌, ℤ, pos, ◌+ℤ◌, ◌*ℤ◌, ◌≤ℤ◌, ◌<ℤ◌, unsigned_abs, FitsSigned, to_z, of_z}
+use Rattle.std.proofs.Common.{◌≡◌, refl, sym, ap, ◌∙◌, ◌^◌, ◌≤◌, [], ◌∷◌, ℤ, pos, ◌+ℤ◌, ◌*ℤ◌, ◌≤ℤ◌, ◌<ℤ◌, unsigned_abs, FitsSigned, to_z, of_z}
 use Rattle.std.proofs.Common.{lit<, arith}
 use Rattle.std.specs.Int.{w32, w128}
 use Rattle.std.specs.Int.Signed.{shr_z}
@@ -40,9 +40,11 @@ nearest_within : (z lo : ℤ) → IsNearest z lo → abs (z ÷ 1 -ℚ whole 1000
 nearest_within z lo h =
     abs_le (z ÷ 1 -ℚ whole 1000 *ℚ u) (pos 1 ÷ 2)
     (cancel_le (2 ^ 60) (lit< tt) (z ÷ 1 -ℚ whole 1000 *ℚ u) (pos 1 ÷ 2) (moved ℚ_ordered refl (sym half_in_units)
-    (le₄ ℚ_ordered (λ z u k g. (z ⊟ num 1000 ⊠ u) ⊠ k) (λ z u k g. g) (λ z u k g. le (z ⊠ k) (num 1000 ⊠ (u ⊠ k) ⊞ g) ∷ []) refl (z ÷ 1) u K half (high, tt))))
+    (le₄ ℚ_ordered (λ z u k g. (z ⊟ num 1000 ⊠ u) ⊠ k) (λ z u k g. g) (λ z u k g. le (z ⊠ k) (num 1000 ⊠ (u ⊠ k) ⊞ g) ∷ []) refl
+    (z ÷ 1) u K half (high, tt))))
     (cancel_le (2 ^ 60) (lit< tt) (neg_ℚ (z ÷ 1 -ℚ whole 1000 *ℚ u)) (pos 1 ÷ 2) (moved ℚ_ordered refl (sym half_in_units)
-    (le₄ ℚ_ordered (λ z u k g. opp (z ⊟ num 1000 ⊠ u) ⊠ k) (λ z u k g. g) (λ z u k g. le (num 1000 ⊠ (u ⊠ k)) (z ⊠ k ⊞ g) ∷ []) refl (z ÷ 1) u K half (low, tt))))
+    (le₄ ℚ_ordered (λ z u k g. opp (z ⊟ num 1000 ⊠ u) ⊠ k) (λ z u k g. g) (λ z u k g. le (num 1000 ⊠ (u ⊠ k)) (z ⊠ k ⊞ g) ∷ []) refl
+    (z ÷ 1) u K half (low, tt))))
   where
     u : ℚ
     u = in_units lo

@@ -35,7 +35,8 @@ IsPointOf w k corner t point = (c : ℕ) × IsCorner c × (corner_of w (k - 1) c
 -- one end of each edge, as the triangle before the edge is drawn
 pub record AreEnds (w : List ℕ) (end : ℕ → FormalPoint) (ts : List DrawnTriangle) (points : List PicturePoint) : Type 0 where
   pub count : length points ≡ length w
-  pub each : (k : ℕ) (t : DrawnTriangle) (s : PicturePoint) → IsPlace w k → IsPointOf w k (end k) (slice_index_or ts (k - 1) t) (slice_index_or points (k - 1) s)
+  pub each : (k : ℕ) (t : DrawnTriangle) (p : PicturePoint) → IsPlace w k
+      → IsPointOf w k (end k) (slice_index_or ts (k - 1) t) (slice_index_or points (k - 1) p)
 
 -- ---- what is seen
 

@@ -7,8 +7,8 @@ ghost use Rattle.svg_pictures.specs.Ends.{end_of, end_number};
 ghost use Rattle.svg_pictures.specs.UnfoldingPicture.{AreEnds};
 
 use crate::drawn::DrawnTriangle;
-use crate::side::Side;
 use crate::picture_point::PicturePoint;
+use crate::side::Side;
 use edge_words::MAX_LETTERS;
 
 /// One end of each edge, as the triangle before the edge is drawn, and then some of no meaning.

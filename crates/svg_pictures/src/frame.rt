@@ -31,8 +31,12 @@ impl Frame {
 
     /// The least frame that has one more point.
     fn with(self, point: PicturePoint) -> Frame
-        ensures { result ≡ record { left = int_min self.left point.across; right = int_max self.right point.across; top = int_min self.top point.down;
-            bottom = int_max self.bottom point.down } }
+        ensures { result ≡ record {
+          left = int_min self.left point.across;
+          right = int_max self.right point.across;
+          top = int_min self.top point.down;
+          bottom = int_max self.bottom point.down;
+        } }
     {
         Frame {
             left: self.left.min(point.across),

@@ -11,8 +11,8 @@ ghost use Rattle.svg_pictures.specs.UnfoldingPicture.{WritesUnfolding, unfolding
 use crate::drawn::DrawnTriangle;
 use crate::ends::ends;
 use crate::frame::{Frame, frame_of};
-use crate::side::Side;
 use crate::picture_point::PicturePoint;
+use crate::side::Side;
 use crate::svg::{write_first_line, write_last_line};
 use crate::triangles::draw_triangles;
 use mcb_ends::{Decimal, Failed, Sink, put_all};
@@ -24,12 +24,7 @@ use unfolding::Unfolding;
 /// a red one at the lower corner, or a prefix of it and fails. The angles are in half turns. It takes no memory.
 ///
 /// The numbers are 1000 times the coordinates, within 1, where the radius of the circle round the first triangle is 1.
-pub fn write_unfolding<K: Sink>(
-    u: &Unfolding,
-    x: Frac,
-    y: Frac,
-    out: &mut K,
-) -> Result<(), Failed>
+pub fn write_unfolding<K: Sink>(u: &Unfolding, x: Frac, y: Frac, out: &mut K) -> Result<(), Failed>
     requires first { whole 0 <ℚ value x }
     requires second { whole 0 <ℚ value y }
     requires third { value x +ℚ value y <ℚ whole 1 }
