@@ -58,10 +58,10 @@ module _ (n : ℕ) (late : 20 ≤ n) (x y : ℚ) where
   at_most_two : (t : ℚ) → abs (sine_of_turn n t) ≤ℚ whole 2
   at_most_two t = le_trans (abs (sine_of_turn n t)) (pos 8 ÷ 5) (whole 2) (sine_bounded n late t) eight_fifths_at_most_two
 
-  first_size : (p : FormalPoint) → abs (first_coordinate n p x y) ≤ℚ whole (weight p) *ℚ whole 2
+  pub first_size : (p : FormalPoint) → abs (first_coordinate n p x y) ≤ℚ whole (weight p) *ℚ whole 2
   first_size p = total_size (λ d. sine_of_turn n (turn_of d x y +ℚ pos 1 ÷ 2)) (whole 2) (λ d. at_most_two (turn_of d x y +ℚ pos 1 ÷ 2)) (terms p)
 
-  second_size : (p : FormalPoint) → abs (second_coordinate n p x y) ≤ℚ whole (weight p) *ℚ whole 2
+  pub second_size : (p : FormalPoint) → abs (second_coordinate n p x y) ≤ℚ whole (weight p) *ℚ whole 2
   second_size p = total_size (λ d. sine_of_turn n (turn_of d x y)) (whole 2) (λ d. at_most_two (turn_of d x y)) (terms p)
 
 -- what is said at one n of a number and a coordinate

@@ -4,9 +4,7 @@ pub mod Texts
 pub mod Frames
 pub mod Filled
 pub mod EndNumbers
-pub mod Turning
 pub mod Rounded
-pub mod Summing
-pub mod Spots
+pub mod PicturePoints
 pub mod Pictures
 pub mod Thirds

@@ -2,6 +2,5 @@ pub mod Svg
 pub mod Coordinates
 pub mod Drawn
 pub mod UnfoldingPicture
-pub mod Angles
 pub mod Ends
 pub mod TilePicture

@@ -1,23 +1,23 @@
 //! A triangle as it is drawn.
 ghost use Rattle.std.specs.Prelude.{◌≡◌};
 ghost use Rattle.unfolding.specs.Triangle.{IsCorner};
-ghost use Rattle.svg_pictures.specs.Drawn.{spot_at};
+ghost use Rattle.svg_pictures.specs.Drawn.{point_at};
 
-use crate::spot::Spot;
+use crate::picture_point::PicturePoint;
 
-/// A triangle in a picture: the spots of its corners 1, 2 and 3.
+/// A triangle in a picture: the points of its corners 1, 2 and 3.
 #[derive(Clone, Copy, Debug, PartialEq, Eq, Default)]
 pub struct DrawnTriangle {
-    pub first: Spot,
-    pub second: Spot,
-    pub third: Spot,
+    pub first: PicturePoint,
+    pub second: PicturePoint,
+    pub third: PicturePoint,
 }
 
 impl DrawnTriangle {
-    /// The spot of a corner.
-    pub fn spot(&self, corner: u8) -> Spot
+    /// The point of a corner.
+    pub fn point(&self, corner: u8) -> PicturePoint
         requires { IsCorner corner }
-        ensures { result ≡ spot_at self.now corner }
+        ensures { result ≡ point_at self.now corner }
     {
         match corner {
             1 => self.first,

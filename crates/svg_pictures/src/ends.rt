@@ -1,4 +1,4 @@
-//! The spots of the ends of edges.
+//! The ends of edges in a picture.
 ghost use Rattle.std.specs.Prelude.{◌≡◌, ◌+◌, length, take};
 ghost use Rattle.edge_words.specs.Letters.{IsLetter};
 ghost use Rattle.edge_words.specs.Word.{IsWord};
@@ -7,21 +7,21 @@ ghost use Rattle.svg_pictures.specs.Ends.{end_of, end_number};
 ghost use Rattle.svg_pictures.specs.UnfoldingPicture.{AreEnds};
 
 use crate::drawn::DrawnTriangle;
+use crate::picture_point::PicturePoint;
 use crate::side::Side;
-use crate::spot::Spot;
 use edge_words::MAX_LETTERS;
 
-/// The spots of one end of each edge, as the triangle before the edge is drawn, and then some of no meaning.
-pub fn ends(edges: &[u8], triangles: &[DrawnTriangle], side: Side) -> [Spot; MAX_LETTERS]
+/// One end of each edge, as the triangle before the edge is drawn, and then some of no meaning.
+pub fn ends(edges: &[u8], triangles: &[DrawnTriangle], side: Side) -> [PicturePoint; MAX_LETTERS]
     requires word { IsWord edges.now }
     requires count { length triangles.now ≡ length edges.now + 1 }
     ensures { AreEnds edges.now (end_of side edges.now) triangles.now (take (length edges.now) result) }
 {
-    let mut spots = [Spot::default(); MAX_LETTERS];
+    let mut points = [PicturePoint::default(); MAX_LETTERS];
     for j in 0..edges.len() {
-        spots[j] = triangles[j].spot(number_of_end(side, edges[j], j));
+        points[j] = triangles[j].point(number_of_end(side, edges[j], j));
     }
-    spots
+    points
 }
 
 /// The number of the corner at which an end of an edge stands in triangle `j`, from which the path goes over the edge.

@@ -1,13 +1,13 @@
 //! What is seen of a picture.
 ghost use Rattle.std.specs.Prelude.{◌≡◌, ◌<◌, length};
 ghost use Rattle.std.specs.Int.{int_min, int_max};
-ghost use Rattle.svg_pictures.specs.Drawn.{spots_of};
+ghost use Rattle.svg_pictures.specs.Drawn.{points_of};
 ghost use Rattle.svg_pictures.specs.UnfoldingPicture.{IsFrame};
 
 use crate::drawn::DrawnTriangle;
-use crate::spot::Spot;
+use crate::picture_point::PicturePoint;
 
-/// The least and the greatest numbers of some spots.
+/// The least and the greatest numbers of some points.
 #[derive(Clone, Copy, Debug)]
 pub struct Frame {
     pub left: i32,
@@ -17,28 +17,32 @@ pub struct Frame {
 }
 
 impl Frame {
-    /// The frame of one spot.
-    fn around(spot: Spot) -> Frame
-        ensures { result ≡ record { left = spot.across; right = spot.across; top = spot.down; bottom = spot.down } }
+    /// The frame of one point.
+    fn around(point: PicturePoint) -> Frame
+        ensures { result ≡ record { left = point.across; right = point.across; top = point.down; bottom = point.down } }
     {
         Frame {
-            left: spot.across,
-            right: spot.across,
-            top: spot.down,
-            bottom: spot.down,
+            left: point.across,
+            right: point.across,
+            top: point.down,
+            bottom: point.down,
         }
     }
 
-    /// The least frame that has one more spot.
-    fn with(self, spot: Spot) -> Frame
-        ensures { result ≡ record { left = int_min self.left spot.across; right = int_max self.right spot.across; top = int_min self.top spot.down;
-            bottom = int_max self.bottom spot.down } }
+    /// The least frame that has one more point.
+    fn with(self, point: PicturePoint) -> Frame
+        ensures { result ≡ record {
+          left = int_min self.left point.across;
+          right = int_max self.right point.across;
+          top = int_min self.top point.down;
+          bottom = int_max self.bottom point.down;
+        } }
     {
         Frame {
-            left: self.left.min(spot.across),
-            right: self.right.max(spot.across),
-            top: self.top.min(spot.down),
-            bottom: self.bottom.max(spot.down),
+            left: self.left.min(point.across),
+            right: self.right.max(point.across),
+            top: self.top.min(point.down),
+            bottom: self.bottom.max(point.down),
         }
     }
 }
@@ -46,7 +50,7 @@ impl Frame {
 /// The frame of all corners of some triangles.
 pub fn frame_of(triangles: &[DrawnTriangle]) -> Frame
     requires { 0 < length triangles.now }
-    ensures { IsFrame (spots_of triangles.now) result }
+    ensures { IsFrame (points_of triangles.now) result }
 {
     let mut frame = Frame::around(triangles[0].first);
     for triangle in triangles {

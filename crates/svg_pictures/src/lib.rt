@@ -4,14 +4,12 @@
 //! stands for a coordinate is within 1 of 1000 times the coordinate's approximations, from some one on.
 #![tactic(auto)]
 
-mod angles;
-mod axis;
 mod coordinates;
 mod drawn;
 mod ends;
 mod frame;
+mod picture_point;
 mod side;
-mod spot;
 mod svg;
 #[cfg(test)]
 mod tests;

@@ -8,15 +8,15 @@ ghost use Rattle.rat_core.specs.Fraction.{whole, ◌+ℚ◌, ◌<ℚ◌};
 ghost use Rattle.rat_core.specs.Written.{value};
 ghost use Rattle.svg_pictures.specs.UnfoldingPicture.{WritesUnfolding, unfolding_text, frame_line, polygon_line, dot_line};
 
-use crate::angles::over_one_denominator;
 use crate::drawn::DrawnTriangle;
 use crate::ends::ends;
 use crate::frame::{Frame, frame_of};
+use crate::picture_point::PicturePoint;
 use crate::side::Side;
-use crate::spot::Spot;
 use crate::svg::{write_first_line, write_last_line};
 use crate::triangles::draw_triangles;
 use mcb_ends::{Decimal, Failed, Sink, put_all};
+use plane_points::Plane;
 use rat_core::Frac;
 use unfolding::Unfolding;
 
@@ -24,12 +24,7 @@ use unfolding::Unfolding;
 /// a red one at the lower corner, or a prefix of it and fails. The angles are in half turns. It takes no memory.
 ///
 /// The numbers are 1000 times the coordinates, within 1, where the radius of the circle round the first triangle is 1.
-pub fn write_unfolding<K: Sink>(
-    u: &Unfolding,
-    x: Frac,
-    y: Frac,
-    out: &mut K,
-) -> Result<(), Failed>
+pub fn write_unfolding<K: Sink>(u: &Unfolding, x: Frac, y: Frac, out: &mut K) -> Result<(), Failed>
     requires first { whole 0 <ℚ value x }
     requires second { whole 0 <ℚ value y }
     requires third { value x +ℚ value y <ℚ whole 1 }
@@ -40,7 +35,7 @@ pub fn write_unfolding<K: Sink>(
     ensures cause { HasCause (K.faults out.old) (K.faults out.new) result }
 {
     let edges = u.word().letters();
-    let drawn = draw_triangles(u, &over_one_denominator(x, y));
+    let drawn = draw_triangles(u, &Plane::at(x, y));
     let triangles = &drawn[..edges.len() + 1];
     let uppers = ends(edges, triangles, Side::Upper);
     let lowers = ends(edges, triangles, Side::Lower);
@@ -56,8 +51,8 @@ pub fn write_unfolding<K: Sink>(
 fn write_drawing<K: Sink>(
     frame: &Frame,
     triangles: &[DrawnTriangle],
-    uppers: &[Spot],
-    lowers: &[Spot],
+    uppers: &[PicturePoint],
+    lowers: &[PicturePoint],
     out: &mut K,
 ) -> Result<(), Failed>
     ensures text { Writes (K.written out.old) (K.written out.new) result (unfolding_text frame.now triangles.now uppers.now lowers.now) }
@@ -142,24 +137,24 @@ fn write_polygon<K: Sink>(triangle: &DrawnTriangle, out: &mut K) -> Result<(), F
     )
 }
 
-fn write_dots<K: Sink>(colour: &[u8], spots: &[Spot], out: &mut K) -> Result<(), Failed>
-    ensures text { Writes (K.written out.old) (K.written out.new) result (flat_map (dot_line colour.now) spots.now) }
+fn write_dots<K: Sink>(colour: &[u8], points: &[PicturePoint], out: &mut K) -> Result<(), Failed>
+    ensures text { Writes (K.written out.old) (K.written out.new) result (flat_map (dot_line colour.now) points.now) }
     ensures room { K.room out.new ≡ K.room out.old }
     ensures cause { HasCause (K.faults out.old) (K.faults out.new) result }
 {
-    for spot in spots {
-        write_dot(colour, *spot, out)?;
+    for point in points {
+        write_dot(colour, *point, out)?;
     }
     Ok(())
 }
 
-fn write_dot<K: Sink>(colour: &[u8], spot: Spot, out: &mut K) -> Result<(), Failed>
-    ensures text { Writes (K.written out.old) (K.written out.new) result (dot_line colour.now spot) }
+fn write_dot<K: Sink>(colour: &[u8], point: PicturePoint, out: &mut K) -> Result<(), Failed>
+    ensures text { Writes (K.written out.old) (K.written out.new) result (dot_line colour.now point) }
     ensures room { K.room out.new ≡ K.room out.old }
     ensures cause { HasCause (K.faults out.old) (K.faults out.new) result }
 {
-    let across = number(spot.across);
-    let down = number(spot.down);
+    let across = number(point.across);
+    let down = number(point.down);
     put_all(
         out,
         &[

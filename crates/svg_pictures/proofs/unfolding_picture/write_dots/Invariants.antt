@@ -5,11 +5,11 @@ use Rattle.svg_pictures.specs.UnfoldingPicture.{dot_line}
 use Rattle.svg_pictures.proofs.unfolding_picture.write_dots.Given as goal
 
 -- the dots so far are written, and room and count stand
-abbrev pub invariant-loop-spot : goal.invariant-loop-spot
-invariant-loop-spot g l =
+abbrev pub invariant-loop-point : goal.invariant-loop-point
+invariant-loop-point g l =
     let k = g.K.Sink in
     record {
-      text : Appends (k.written l.fn.out) (k.written l.out) (flat_map (dot_line l.colour) (take l.spot-index l.spots));
+      text : Appends (k.written l.fn.out) (k.written l.out) (flat_map (dot_line l.colour) (take l.point-index l.points));
       room : k.room l.out ≡ k.room l.fn.out;
       faults : k.faults l.out ≡ k.faults l.fn.out;
     }
