@@ -88,7 +88,6 @@ greatest_twice number s seen z h =
 
 -- ---- frames
 
-
 -- the frame of one spot
 abbrev around : Spot → Frame
 around s = record { left = s.across; right = s.across; top = s.down; bottom = s.down }
@@ -133,7 +132,8 @@ frame_next first ts i d f within h =
     (frame_more (seen ++ t.first ∷ []) one t.second (frame_more seen f t.first h)) in
     let listed : ((seen ++ t.first ∷ []) ++ t.second ∷ []) ++ t.third ∷ [] ≡ first ∷ spots_of (take (i + 1) ts) =
     grouped seen t.first t.second t.third
-    ∙ ap (λ (rest : List Spot). first ∷ rest) (sym (ap spots_of (take_more ts i d within) ∙ flat_map-append (λ u. u.first ∷ u.second ∷ u.third ∷ []) (take i ts) (t ∷ [])))
+    ∙ ap (λ (rest : List Spot). first ∷ rest) (sym (ap spots_of (take_more ts i d within)
+    ∙ flat_map-append (λ u. u.first ∷ u.second ∷ u.third ∷ []) (take i ts) (t ∷ [])))
     in
     subst (λ (spots : List Spot). IsFrame spots (widened two t.third)) listed all
   where

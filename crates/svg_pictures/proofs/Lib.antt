@@ -10,3 +10,5 @@ pub mod Summing
 pub mod Spots
 pub mod Pictures
 pub mod Thirds
+pub mod OnePicture
+pub mod Differences

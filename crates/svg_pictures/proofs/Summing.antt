@@ -1,5 +1,6 @@
 -- Sums of multiples of sines, each known within bounds.
-use Rattle.std.proofs.Common.{◌≡◌, refl, sym, ap, ◌∙◌, subst, ℕ, ◌+◌, ◌*◌, ◌^◌, ◌<◌, ◌≤◌, List, [], ◌∷◌, ◌++◌, length, take, get_or, true, false, ℤ, pos, ◌+ℤ◌, ◌-ℤ◌, ◌*ℤ◌, ◌≤ℤ◌}
+use Rattle.std.proofs.Common.{◌≡◌, refl, sym, ap, ◌∙◌, subst, ℕ, ◌+◌, ◌*◌, ◌^◌, ◌<◌, ◌≤◌, List, [], ◌∷◌, ◌++◌, length, take}
+use Rattle.std.proofs.Common.{get_or, true, false, ℤ, pos, ◌+ℤ◌, ◌-ℤ◌, ◌*ℤ◌, ◌≤ℤ◌}
 use Rattle.std.proofs.Common.{unsigned_abs, FitsSigned, to_z, of_z, arith}
 use Rattle.std.specs.Int.{w64, w128, int_min, int_max}
 use Rattle.std.proofs.lemmas.Int.{ints, clamps, to_z-of_z, fits_signed_from_abs, unsigned_abs-mul}
@@ -106,7 +107,10 @@ module _ (axis : Axis) (x y : ℚ) (ts : List Term) where
   sum_of_none =
       let e : whole 0 *ℚ whole (2 ^ 60) ≡ whole 0 = ring₁ ℚ_ring (λ u. num 0 ⊠ u) (λ u. num 0) refl (whole (2 ^ 60)) in
       record {
-        encloses = always (λ n. record { low = subst (λ t. whole 0 ≤ℚ t) (sym e) (le_refl (whole 0)); high = subst (λ t. t ≤ℚ whole 0) (sym e) (le_refl (whole 0)) });
+        encloses = always (λ n. record {
+          low = subst (λ t. whole 0 ≤ℚ t) (sym e) (le_refl (whole 0));
+          high = subst (λ t. t ≤ℚ whole 0) (sym e) (le_refl (whole 0));
+        });
         width = omega (arith, ints);
         size = record { low = omega arith; high = omega arith };
       }
@@ -121,8 +125,8 @@ module _ (axis : Axis) (x y : ℚ) (ts : List Term) where
       let next : take (i + 1) ts ≡ take i ts ++ t ∷ [] = take_more ts i d within in
       let value : (n : ℕ) → coordinate_of axis n (take i ts) x y +ℚ (t.c ÷ 1) *ℚ f n t.dir ≡ coordinate_of axis n (take (i + 1) ts) x y =
       λ n.
-          sym (ap (weigh_terms ℚ_ring ℚ_image (f n)) next ∙ weigh_terms-append ℚ_ring ℚ_image (f n) (take i ts) (t ∷ [])
-          ∙ ap (λ z. coordinate_of axis n (take i ts) x y +ℚ z) (ℚ_ring.add-zero ((t.c ÷ 1) *ℚ f n t.dir)))
+      sym (ap (weigh_terms ℚ_ring ℚ_image (f n)) next ∙ weigh_terms-append ℚ_ring ℚ_image (f n) (take i ts) (t ∷ [])
+      ∙ ap (λ z. coordinate_of axis n (take i ts) x y +ℚ z) (ℚ_ring.add-zero ((t.c ÷ 1) *ℚ f n t.dir)))
       in
       let heavy : terms_weight (take (i + 1) ts) ≡ terms_weight (take i ts) + unsigned_abs t.c =
       ap terms_weight next ∙ terms_weight-append (take i ts) (t ∷ []) ∙ ap (λ m. terms_weight (take i ts) + m) (one_weight t)
@@ -130,7 +134,8 @@ module _ (axis : Axis) (x y : ℚ) (ts : List Term) where
       let wide = both_wide total more (terms_weight (take i ts)) (unsigned_abs t.c) (terms_weight (take (i + 1) ts)) heavy h.width k.width in
       let large = both_large total more (terms_weight (take i ts)) (unsigned_abs t.c) (terms_weight (take (i + 1) ts)) heavy h.size k.size in
       record {
-        encloses = onward_both (λ n first second. subst (Encloses 60 all) (value n) (sums (coordinate_of axis n (take i ts) x y) ((t.c ÷ 1) *ℚ f n t.dir) first second))
+        encloses = onward_both
+            (λ n first second. subst (Encloses 60 all) (value n) (sums (coordinate_of axis n (take i ts) x y) ((t.c ÷ 1) *ℚ f n t.dir) first second))
             h.encloses encloses;
         width = subst (λ (s : Ends). s.hi ≤ℤ (s.lo +ℤ pos (256 * terms_weight (take (i + 1) ts)))) (sym all_is) wide;
         size = subst (λ (s : Ends). IsWithin (2 ^ 62 * terms_weight (take (i + 1) ts)) s) (sym all_is) large;

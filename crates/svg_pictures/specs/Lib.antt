@@ -5,3 +5,4 @@ pub mod UnfoldingPicture
 pub mod Angles
 pub mod Ends
 pub mod TilePicture
+pub mod Laws

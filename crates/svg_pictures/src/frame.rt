@@ -31,8 +31,12 @@ impl Frame {
 
     /// The least frame that has one more spot.
     fn with(self, spot: Spot) -> Frame
-        ensures { result ≡ record { left = int_min self.left spot.across; right = int_max self.right spot.across; top = int_min self.top spot.down;
-            bottom = int_max self.bottom spot.down } }
+        ensures { result ≡ record {
+          left = int_min self.left spot.across;
+          right = int_max self.right spot.across;
+          top = int_min self.top spot.down;
+          bottom = int_max self.bottom spot.down;
+        } }
     {
         Frame {
             left: self.left.min(spot.across),

@@ -10,6 +10,7 @@ mod coordinates;
 mod drawn;
 mod ends;
 mod frame;
+pub mod laws;
 mod side;
 mod spot;
 mod svg;

@@ -24,12 +24,7 @@ use unfolding::Unfolding;
 /// a red one at the lower corner, or a prefix of it and fails. The angles are in half turns. It takes no memory.
 ///
 /// The numbers are 1000 times the coordinates, within 1, where the radius of the circle round the first triangle is 1.
-pub fn write_unfolding<K: Sink>(
-    u: &Unfolding,
-    x: Frac,
-    y: Frac,
-    out: &mut K,
-) -> Result<(), Failed>
+pub fn write_unfolding<K: Sink>(u: &Unfolding, x: Frac, y: Frac, out: &mut K) -> Result<(), Failed>
     requires first { whole 0 <ℚ value x }
     requires second { whole 0 <ℚ value y }
     requires third { value x +ℚ value y <ℚ whole 1 }

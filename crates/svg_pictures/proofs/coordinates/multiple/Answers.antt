@@ -19,7 +19,8 @@ scale-requires c =
     let at = c.args.at.now in
     let s = c.sine_along.ensures in
     let small = c.requires.light in
-    let size = (multiple_is c.args.term.now.c c.sine_along.result (λ n. sine_of_turn n (turn_along c.args.axis c.args.term.now.dir (first_angle at) (second_angle at)))
+    let size = (multiple_is c.args.term.now.c c.sine_along.result
+    (λ n. sine_of_turn n (turn_along c.args.axis c.args.term.now.dir (first_angle at) (second_angle at)))
     s.encloses s.width s.size).size in
     let low = size.low in
     let high = size.high in
