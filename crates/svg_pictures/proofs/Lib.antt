@@ -8,3 +8,5 @@ pub mod Rounded
 pub mod PicturePoints
 pub mod Pictures
 pub mod Thirds
+pub mod OnePicture
+pub mod Differences

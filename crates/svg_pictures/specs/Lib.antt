@@ -4,3 +4,4 @@ pub mod Drawn
 pub mod UnfoldingPicture
 pub mod Ends
 pub mod TilePicture
+pub mod Laws

@@ -8,6 +8,7 @@ mod coordinates;
 mod drawn;
 mod ends;
 mod frame;
+pub mod laws;
 mod picture_point;
 mod side;
 mod svg;
