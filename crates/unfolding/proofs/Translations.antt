@@ -71,7 +71,7 @@ pub mirrors_sum : (w : List ℕ) (x y : FormalPoint) → mirrors w (x +ₚ y) �
 mirrors_sum w x y = mirrors-vector w x y ∙ ap (λ t. mirrors w x +ₚ t) (vector_is w y)
 
 -- n times more
-whole_point-suc : (n : ℕ) (v : FormalPoint) → whole_point (suc n) *ₚ v ≡ whole_point n *ₚ v +ₚ v
+pub whole_point-suc : (n : ℕ) (v : FormalPoint) → whole_point (suc n) *ₚ v ≡ whole_point n *ₚ v +ₚ v
 whole_point-suc n v =
     let more : whole_point (suc n) ≡ whole_point n +ₚ one_point = ap (λ k. whole_point k) (omega arith) ∙ monomial-+ₚ (pos n) (pos 1) zero_dir in
     ap (λ t. t *ₚ v) more ∙ ring point_ring (whole_point n ∷ v ∷ []) ((var 0 ⊞ num 1) ⊠ var 1) (var 0 ⊠ var 1 ⊞ var 1) refl

@@ -1,11 +1,11 @@
 -- Lists in which neighbours differ, joined from parts.
-use Rattle.std.proofs.Common.{◌≡◌, ◌≢◌, ℕ, zero, suc, ◌+◌, ◌-◌, ◌<◌, ◌≤◌, List, [], ◌∷◌, ◌++◌, length, get_or, refl, sym, ap, subst, ◌∙◌, arith, length-append}
+use Rattle.std.proofs.Common.{◌≡◌, ◌≢◌, ℕ, zero, suc, ◌-◌, ◌<◌, ◌≤◌, List, [], ◌∷◌, ◌++◌, length, get_or, refl, sym, ap, subst, ◌∙◌, arith, length-append}
 use Rattle.std.specs.Prelude.{⊤}
 use Rattle.std.proofs.lemmas.List.{append-nil}
 use Rattle.edge_words.specs.Word.{NeighboursDiffer, IsWord}
 use Rattle.edge_words.proofs.Turns.{DiffersAlong, differs_along, neighbours_differ}
 use Rattle.word_family.specs.Family.{Parts, times_written, member, IsFamily}
-use Rattle.word_family.proofs.Members.{length-member, member-even, member-letters}
+use Rattle.word_family.proofs.Members.{member-even, member-letters}
 
 -- after x, each letter differs from the one before it
 IsLinked : ℕ → List ℕ → Type 0
@@ -122,8 +122,13 @@ member_linked f n x some h =
     (subst (λ y. IsLinked y f.last) (sym (end_of_times f.middle after n some)) last))
 
 member_some : (f : Parts) (n : ℕ) → 0 < length f.middle → 0 < length (member f (suc n))
-member_some f n some = omega (arith, length-append f.first (times_written (suc n) f.middle ++ f.last),
-    length-append (times_written (suc n) f.middle) f.last, length-append f.middle (times_written n f.middle), some)
+member_some f n some = omega (
+  arith,
+  length-append f.first (times_written (suc n) f.middle ++ f.last),
+  length-append (times_written (suc n) f.middle) f.last,
+  length-append f.middle (times_written n f.middle),
+  some,
+)
 
 -- neighbours differ in each member
 pub member_differs : (f : Parts) (n : ℕ) → IsFamily f → 1 ≤ n → NeighboursDiffer (member f n)

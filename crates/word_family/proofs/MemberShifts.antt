@@ -1,14 +1,14 @@
 -- The shifts of members. The mirrors of a stable list of even length are a translation, so b moves what comes after it by one vector, however
 -- often it is written; the mirrors of a show that vector as it is seen after them.
-use Rattle.std.proofs.Common.{◌≡◌, ℕ, zero, suc, ◌+◌, ◌%◌, ◌≤◌, List, [], ◌∷◌, ◌++◌, length, take, refl, sym, ap, ap₂, ◌∙◌, arith, length-append}
+use Rattle.std.proofs.Common.{◌≡◌, ℕ, zero, suc, List, [], ◌∷◌, ◌++◌, length, refl, sym, ap, ap₂, subst₂, ◌∙◌, arith}
 use Rattle.std.proofs.lemmas.List.{take_all}
-use Rattle.ring_solver.specs.Expression.{var, num, opp, ◌⊞◌, ◌⊟◌, ◌⊠◌}
+use Rattle.ring_solver.specs.Expression.{var, num, ◌⊞◌, ◌⊠◌}
 use Rattle.ring_solver.proofs.Solver.{ring}
 use Rattle.exp_sums.specs.FormalPoint.{FormalPoint, whole_point, zero_point, ◌+ₚ◌, ◌-ₚ◌, ◌*ₚ◌}
 use Rattle.exp_sums.proofs.PointRing.{point_ring, +ₚ_assoc}
-use Rattle.unfolding.specs.Triangle.{first_corner, mirrors, corner_of, centre_of}
+use Rattle.unfolding.specs.Triangle.{first_corner, mirrors, centre_of}
 use Rattle.unfolding.proofs.Translations.{mirrors-append, mirrors_multiple, translation, whole_point-suc}
-use Rattle.word_family.specs.Family.{Parts, times_written, member, AreParts, AreEven, IsStableFamily, AreShiftsOf}
+use Rattle.word_family.specs.Family.{Parts, times_written, member, AreParts, AreEven, IsFamily, IsStableFamily, AreShiftsOf}
 use Rattle.word_family.proofs.Members.{member-even, member-letters}
 use Rattle.word_family.proofs.MemberStability.{stable_between}
 
@@ -57,3 +57,15 @@ member_shifts f parts even stable n some c corner =
     (sym (mirrors-append f.first f.last p) ∙ translation (member f 0) (member-letters f 0 parts) (member-even f 0 even) between.ends p)
     ∙ +ₚ_assoc p (mirrors (member f 0) zero_point) (whole_point n *ₚ step)
     ∙ ap₂ (λ u v. p +ₚ (u +ₚ whole_point n *ₚ v)) (centre_at_end (member f 0)) (step_is f)
+
+-- the same with lists and points that are made one after another
+pub shifts_are : (f : Parts) → IsFamily f → IsStableFamily f → (ac a ab : List ℕ) → ac ≡ member f 0 → a ≡ f.first → ab ≡ f.first ++ f.middle →
+    (base before step shift : FormalPoint) → base ≡ centre_of ac (length ac) → before ≡ centre_of a (length a) → step ≡ centre_of ab (length ab) →
+    shift ≡ step -ₚ before → AreShiftsOf f base shift
+unfolding base_of step_of
+shifts_are f is stable ac a ab ac_is a_is ab_is base before step shift base_is before_is step_is shift_is =
+    let end : List ℕ → FormalPoint = λ w. centre_of w (length w) in
+    subst₂ (AreShiftsOf f)
+    (sym (base_is ∙ ap end ac_is))
+    (sym (shift_is ∙ ap₂ ◌-ₚ◌ (step_is ∙ ap end ab_is) (before_is ∙ ap end a_is)))
+    (member_shifts f is.parts is.even stable)

@@ -1,12 +1,16 @@
 -- No texts get two answers.
-use Rattle.std.proofs.Common.{◌≡◌, ◌≢◌, ℕ, ◌<◌, List, length, inl, inr, refl, sym, ap, subst, ◌∙◌, arith}
-use Rattle.std.specs.Prelude.{Ok, Err, ◌⊎◌}
+use Rattle.std.proofs.Common.{◌≡◌, ℕ, ◌+◌, ◌<◌, ◌≤◌, List, length, inl, inr, refl, sym, ap, subst, ◌∙◌, arith}
+use Rattle.std.specs.Prelude.{Ok, Err}
 use Rattle.std.proofs.lemmas.List.{length-map}
-use Rattle.edge_words.specs.Reading.{digits_of}
-use Rattle.edge_words.proofs.Digits.{digits_of-injective}
+use Rattle.std.specs.List.{All}
+use Rattle.edge_words.specs.Reading.{IsDigit, digits_of, IsFirstRepeat}
+use Rattle.edge_words.specs.Reading.{IsFirstOther as IsFirstOtherByte}
+use Rattle.edge_words.proofs.Digits.{digits_of-injective, letters_of_digits, digits_of_letters}
+use Rattle.edge_words.proofs.OneWay.{no_other as no_other_byte}
 use Rattle.edge_words.specs.Word.{NeighboursDiffer}
 use Rattle.word_family.specs.Family.{Parts, AreEven, member}
-use Rattle.word_family.specs.Reading.{SpellsPart, SpellsSomePart, SpellsMiddle, SpellParts, IsFirstOther, Reads, ReadsOneWay}
+use Rattle.word_family.specs.Reading.{SpellsPart, SpellsSomePart, SpellsMiddle, SpellParts, SpellFamily, IsFirstOther, HaveOddLength, HaveEqualNeighbours}
+use Rattle.word_family.specs.Reading.{ReadsOneWay}
 use Rattle.word_family.specs.declared.fault.FamilyFault.TheVariants.{Part, Odd, Neighbours}
 
 -- texts spell one triple of parts
@@ -61,3 +65,64 @@ reads_one_way a b c (Err Neighbours) (Err (Part q)) h k = absurd (no_other a b c
 reads_one_way a b c (Err Neighbours) (Err Odd) h k =
     absurd (k.odd (subst AreEven (same_parts a b c h.family k.family h.spelled k.spelled) h.even))
 reads_one_way a b c (Err Neighbours) (Err Neighbours) h k = refl
+
+-- ---- one part
+pub part_of_digits : (bytes w : List ℕ) → bytes ≡ digits_of w → All IsDigit bytes → length bytes ≤ 16 → SpellsPart bytes w
+part_of_digits bytes w e digits few = record {
+  part = record { letters = letters_of_digits bytes w e digits; few = omega (arith, ap length e, length-map w (λ x. x + 48), few) };
+  digits = e;
+}
+
+pub too_long : (bytes : List ℕ) → 16 < length bytes → ¬ (SpellsSomePart bytes)
+too_long bytes long (w, h) = omega (arith, ap length h.digits, length-map w (λ x. x + 48), h.part.few, long)
+
+pub other_byte : (bytes : List ℕ) (place : ℕ) → IsFirstOtherByte bytes place → ¬ (SpellsSomePart bytes)
+other_byte bytes place other (w, h) = no_other_byte bytes place (digits_of_letters bytes w h.digits h.part.letters) other
+
+-- ---- three parts
+pub parts_spelled : (a b c first middle last : List ℕ) → SpellsPart a first → SpellsPart b middle × (0 < length middle) → SpellsPart c last
+    → SpellParts a b c (record { first = first; middle = middle; last = last })
+parts_spelled a b c first middle last f m l = record {
+  parts = record { first = f.part; middle = m.0.part; last = l.part; some = m.1 };
+  first = f.digits;
+  middle = m.0.digits;
+  last = l.digits;
+}
+
+-- the parts, as they are read again
+parts_again : {u v w first middle last : List ℕ} → u ≡ first → v ≡ middle → w ≡ last
+    → ◌≡◌ {A = Parts} (record { first = u; middle = v; last = w }) (record { first = first; middle = middle; last = last })
+parts_again f m l = λ i. record { first = f i; middle = m i; last = l i }
+
+pub odd_parts : (a b c first middle last u v w : List ℕ) → SpellsPart a first → SpellsPart b middle × (0 < length middle) → SpellsPart c last
+    → u ≡ first → v ≡ middle → w ≡ last → ¬ (AreEven (record { first = u; middle = v; last = w })) → HaveOddLength a b c
+odd_parts a b c first middle last u v w f m l fu mv lw odd = record {
+  family = record { first = first; middle = middle; last = last };
+  spelled = parts_spelled a b c first middle last f m l;
+  odd = λ even. odd (subst AreEven (sym (parts_again fu mv lw)) even);
+}
+
+pub equal_parts : (a b c first middle last u v w twice : List ℕ) (place : ℕ) → SpellsPart a first → SpellsPart b middle × (0 < length middle)
+    → SpellsPart c last → u ≡ first → v ≡ middle → w ≡ last → AreEven (record { first = u; middle = v; last = w })
+    → twice ≡ member (record { first = u; middle = v; last = w }) 2 → IsFirstRepeat twice place → HaveEqualNeighbours a b c
+equal_parts a b c first middle last u v w twice place f m l fu mv lw even twice_is repeat = record {
+  family = record { first = first; middle = middle; last = last };
+  spelled = parts_spelled a b c first middle last f m l;
+  even = subst AreEven (parts_again fu mv lw) even;
+  equal = λ differ. subst NeighboursDiffer (sym (twice_is ∙ ap (λ f. member f 2) (parts_again fu mv lw))) differ place repeat.in_range repeat.repeats;
+}
+
+pub family_parts : (a b c first middle last u v w twice : List ℕ) → SpellsPart a first → SpellsPart b middle × (0 < length middle)
+    → SpellsPart c last → u ≡ first → v ≡ middle → w ≡ last → AreEven (record { first = u; middle = v; last = w })
+    → twice ≡ member (record { first = u; middle = v; last = w }) 2 → NeighboursDiffer twice
+    → SpellFamily a b c (record { first = first; middle = middle; last = last })
+family_parts a b c first middle last u v w twice f m l fu mv lw even twice_is differ =
+    let spelled = parts_spelled a b c first middle last f m l in
+    record {
+      is_family = record {
+        parts = spelled.parts;
+        even = subst AreEven (parts_again fu mv lw) even;
+        neighbours_differ = subst NeighboursDiffer (twice_is ∙ ap (λ f. member f 2) (parts_again fu mv lw)) differ;
+      };
+      spelled = spelled;
+    }

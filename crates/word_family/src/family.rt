@@ -1,7 +1,6 @@
 //! Families of words.
 ghost use Rattle.std.specs.Prelude.{◌≡◌, ◌↔◌, ◌⊎◌, ℕ, ◌*◌, ◌+◌, ◌<◌, ◌≤◌, length, IsTrue, IfOk, IsErrOf, MatchOption};
-ghost use Rattle.edge_words.specs.Word.{NeighboursDiffer};
-ghost use Rattle.word_family.specs.Family.{Parts, member, IsStableFamily, AreShiftsOf};
+ghost use Rattle.word_family.specs.Family.{Parts, member, AreEven, IsFamily, IsStableFamily, AreShiftsOf};
 ghost use Rattle.word_family.specs.Reading.{Reads};
 ghost use Rattle.word_family.specs.declared.fault.ShiftsFault.TheVariants.{Unstable};
 
@@ -47,25 +46,25 @@ impl Family {
         let Some(last) = Part::read(c) else {
             return Err(FamilyFault::Part { which: 3 });
         };
-        if b.len() % 2 != 0 || (a.len() + c.len()) % 2 != 0 {
+        if !are_even(first.letters(), middle.letters(), last.letters()) {
             return Err(FamilyFault::Odd);
         }
         let twice = letters_of_member(first.letters(), middle.letters(), last.letters(), 2);
-        if first_repeat(&twice).is_some() {
-            return Err(FamilyFault::Neighbours);
+        match first_repeat(&twice) {
+            Some(_) => Err(FamilyFault::Neighbours),
+            None => Ok(Family {
+                first,
+                middle,
+                last,
+            }),
         }
-        Ok(Family {
-            first,
-            middle,
-            last,
-        })
     }
 
     /// Whether every member a bⁿ c with n ≥ 1 is stable by counts: where b is, and a c. It takes no memory.
     pub fn is_stable(&self) -> bool
         ensures { IsTrue result ↔ IsStableFamily self.now }
     {
-        is_stable(&self.letters_of(0)) && is_stable(self.middle.letters())
+        is_stable(self.middle.letters()) && is_stable(&self.letters_of(0))
     }
 
     /// The member a bⁿ c, where it has from 6 to `MAX_LETTERS` letters. It takes no memory.
@@ -101,8 +100,8 @@ impl Family {
         requires { IsStableFamily self.now }
         ensures { IfOk result (λ shifts. AreShiftsOf self.now shifts.base shifts.step) }
     {
-        let base = centre_after(alloc, &self.letters_of(0))?;
         let before = centre_after(alloc, self.first.letters())?;
+        let base = centre_after(alloc, &self.letters_of(0))?;
         let mut step = centre_after(alloc, &joined(self.first.letters(), self.middle.letters()))?;
         step.sub(&before)?;
         Ok(Shifts { base, step })
@@ -111,7 +110,8 @@ impl Family {
     // The letters of a bⁿ c.
     fn letters_of(&self, n: u32) -> Letters
         requires { length (member self.now n) ≤ MAX_LETTERS }
-        ensures { result.items ≡ member self.now n }
+        ensures member { result.items ≡ member self.now n }
+        ensures family { IsFamily self.now }
     {
         letters_of_member(
             self.first.letters(),
@@ -120,4 +120,12 @@ impl Family {
             n,
         )
     }
+}
+
+// Whether the middle part has an even number of letters, and the two others together have.
+fn are_even(first: &[u8], middle: &[u8], last: &[u8]) -> bool
+    requires { length first.now + length last.now ≤ 64 }
+    ensures { IsTrue result ↔ AreEven (record { first = first.now; middle = middle.now; last = last.now }) }
+{
+    middle.len() % 2 == 0 && (first.len() + last.len()) % 2 == 0
 }

@@ -1,5 +1,6 @@
 //! A part of a family.
-ghost use Rattle.std.specs.Prelude.{◌≡◌, ◌<◌, length, MatchOption};
+ghost use Rattle.std.specs.Prelude.{◌≡◌, ◌<◌, ◌≤◌, length, All, MatchOption};
+ghost use Rattle.edge_words.specs.Reading.{IsDigit, digits_of};
 ghost use Rattle.word_family.specs.Family.{IsPart};
 ghost use Rattle.word_family.specs.Reading.{SpellsPart, SpellsSomePart, SpellsMiddle};
 
@@ -30,14 +31,15 @@ impl Part {
     pub(crate) fn read(digits: &[u8]) -> Option<Part>
         ensures { MatchOption result (¬ (SpellsSomePart digits.now)) (λ part. SpellsPart digits.now part) }
     {
-        if digits.len() > MAX_PART || first_other(digits).is_some() {
+        if digits.len() > MAX_PART {
             return None;
         }
-        let mut letters = ArrayVec::new();
-        for digit in digits {
-            letters.push(*digit - b'0');
+        match first_other(digits) {
+            Some(_) => None,
+            None => Some(Part {
+                letters: letters_of(digits),
+            }),
         }
-        Some(Part { letters })
     }
 
     /// The part with these digits, where there are any.
@@ -58,4 +60,17 @@ impl Part {
     {
         self.letters.as_slice()
     }
+}
+
+// The letters that digits spell.
+fn letters_of(digits: &[u8]) -> ArrayVec<u8, MAX_PART>
+    requires digits { All IsDigit digits.now }
+    requires few { length digits.now ≤ MAX_PART }
+    ensures { digits.now ≡ digits_of result.items }
+{
+    let mut letters = ArrayVec::new();
+    for digit in digits {
+        letters.push(*digit - b'0');
+    }
+    letters
 }
