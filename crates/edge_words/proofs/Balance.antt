@@ -16,6 +16,11 @@ once x y = cond (y == x) 1 0
 pub count_of-cons : (x a : ℕ) (w : List ℕ) → count_of x (a ∷ w) ≡ once x a + count_of x w
 count_of-cons x a w = sum_by-cons (λ y. once x y) a w
 
+-- a count is at most the length
+pub count_at_most : (x : ℕ) (w : List ℕ) → count_of x w ≤ length w
+count_at_most x [] = omega arith
+count_at_most x (a ∷ w) = let one : once x a ≤ 1 = grind (arith, nat_tests) in omega (arith, count_at_most x w, one, count_of-cons x a w)
+
 -- counts of two parts add
 pub count_of-append : (x : ℕ) (xs ys : List ℕ) → count_of x (xs ++ ys) ≡ count_of x xs + count_of x ys
 count_of-append x xs ys = sum_by-append (λ y. cond (y == x) 1 0) xs ys

@@ -22,13 +22,26 @@ letter_after-digits_of w i place =
     let e : length (digits_of w) ≡ length w = length-map w (λ x. x + 48) in
     rw e (digit_at w (i % length w) h)
 
+-- digits spell letters
+pub letters_of_digits : (bytes w : List ℕ) → bytes ≡ digits_of w → All IsDigit bytes → All IsLetter w
+letters_of_digits bytes w e digits =
+    let len : length bytes ≡ length w = ap length e ∙ length-map w (λ x. x + 48) in
+    All-from_get_or IsLetter w 0 (λ k h. let d = All-get_or IsDigit bytes k 0 (omega (arith, len, h)) digits in let v : get_or bytes k 0
+        ≡ get_or w k 0 + 48 = ap (λ xs. get_or xs k 0) e ∙ digit_at w k h in (omega (arith, d, v), omega (arith, d, v)))
+
+-- and what spells letters is digits
+pub digits_of_letters : (bytes w : List ℕ) → bytes ≡ digits_of w → All IsLetter w → All IsDigit bytes
+digits_of_letters bytes w e letters =
+    subst (All IsDigit) (sym e) (All-from_get_or IsDigit (digits_of w) 0
+    (λ k h. let l : k < length w = omega (arith, h, length-map w (λ x. x + 48)) in let d = All-get_or IsLetter w k 0 l letters in
+    (omega (arith, d, digit_at w k l), omega (arith, d, digit_at w k l))))
+
 -- digits of which no two neighbours are equal, in a good number, spell a word
 pub word_of_digits : (bytes w : List ℕ) → bytes ≡ digits_of w → All IsDigit bytes → IsWordLength (length bytes) → NeighboursDiffer bytes → IsWord w
 word_of_digits bytes w e digits good differ =
     let len : length bytes ≡ length w = ap length e ∙ length-map w (λ x. x + 48) in
     record {
-      letters = All-from_get_or IsLetter w 0 (λ k h. let d = All-get_or IsDigit bytes k 0 (omega (arith, len, h)) digits in let v : get_or bytes k 0
-          ≡ get_or w k 0 + 48 = ap (λ xs. get_or xs k 0) e ∙ digit_at w k h in (omega (arith, d, v), omega (arith, d, v)));
+      letters = letters_of_digits bytes w e digits;
       even_length = subst IsWordLength len good;
       neighbours_differ = λ i place same. differ i (place.0, omega (arith, len, place))
           (ap (λ xs. letter_at xs i) e ∙ letter_at-digits_of w i place ∙ ap (λ x. x + 48) same ∙ sym (letter_after-digits_of w i place)
@@ -37,10 +50,7 @@ word_of_digits bytes w e digits good differ =
 
 -- what spells a word is digits
 pub digits_of_word : (bytes w : List ℕ) → Spells bytes w → All IsDigit bytes
-digits_of_word bytes w s =
-    subst (All IsDigit) (sym s.digits) (All-from_get_or IsDigit (digits_of w) 0
-    (λ k h. let l : k < length w = omega (arith, h, length-map w (λ x. x + 48)) in let d = All-get_or IsLetter w k 0 l s.is_word.letters in
-    (omega (arith, d, digit_at w k l), omega (arith, d, digit_at w k l))))
+digits_of_word bytes w s = digits_of_letters bytes w s.digits s.is_word.letters
 
 -- what spells a word has the word's length
 pub length_of_word : (bytes w : List ℕ) → Spells bytes w → IsWordLength (length bytes)

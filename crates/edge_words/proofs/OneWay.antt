@@ -7,7 +7,7 @@ use Rattle.edge_words.specs.Word.{IsWordLength}
 use Rattle.edge_words.proofs.Digits.{digits_of-injective, digits_of_word, length_of_word, neighbours_of_word}
 
 -- among digits no byte is another one
-no_other : (bytes : List ℕ) (p : ℕ) → All IsDigit bytes → IsFirstOther bytes p → ⊥
+pub no_other : (bytes : List ℕ) (p : ℕ) → All IsDigit bytes → IsFirstOther bytes p → ⊥
 no_other bytes p digits first = first.other (digits (p - 1) 0 (omega (arith, first.in_range)))
 
 -- there is one first other byte

@@ -10,18 +10,18 @@ use Rattle.edge_words.specs.Letters.{IsLetter}
 use Rattle.edge_words.specs.Word.{IsWord, IsWordLength, NeighboursDiffer}
 
 -- a list in which neighbours differ, by indices: along the list, and where it closes
-record DiffersAlong (w : List ℕ) : Type 0 where
-  along : (k : ℕ) → k + 1 < length w → get_or w k 0 ≢ get_or w (k + 1) 0
-  closing : get_or w (length w - 1) 0 ≢ get_or w 0 0
+pub record DiffersAlong (w : List ℕ) : Type 0 where
+  pub along : (k : ℕ) → k + 1 < length w → get_or w k 0 ≢ get_or w (k + 1) 0
+  pub closing : get_or w (length w - 1) 0 ≢ get_or w 0 0
 
-differs_along : (w : List ℕ) → 0 < length w → NeighboursDiffer w → DiffersAlong w
+pub differs_along : (w : List ℕ) → 0 < length w → NeighboursDiffer w → DiffersAlong w
 differs_along w some differ = record {
   along = λ k h same. let e : k + 1 - 1 ≡ k = omega arith in differ (k + 1) (omega arith, omega arith) (ap (λ i. get_or w i 0) e ∙ same
       ∙ ap (λ i. get_or w i 0) (sym (mod-eq_of_lt h)));
   closing = λ same. differ (length w) (omega arith, omega arith) (same ∙ ap (λ i. get_or w i 0) (sym (mod_self (length w))));
 }
 
-neighbours_differ : (w : List ℕ) → DiffersAlong w → NeighboursDiffer w
+pub neighbours_differ : (w : List ℕ) → DiffersAlong w → NeighboursDiffer w
 neighbours_differ w d i place same =
     elim (cases_lt i (length w)) [
       | inl below ↦ let e : i - 1 + 1 ≡ i = omega arith in d.along (i - 1) (omega arith) (same ∙ ap (λ k. get_or w k 0) (mod-eq_of_lt below)

@@ -15,6 +15,8 @@ mod tests;
 mod word;
 
 pub use fault::WordFault;
+pub use reading::{first_other, first_repeat};
+pub use stability::is_stable;
 pub use word::Word;
 
 /// The most letters of a word.

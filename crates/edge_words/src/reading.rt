@@ -8,7 +8,7 @@ use smallvec::SmallVec;
 use std::alloc::Global;
 
 /// The place of the first byte that is no digit of a letter.
-pub(crate) fn first_other(bytes: &[u8]) -> Option<u32>
+pub fn first_other(bytes: &[u8]) -> Option<u32>
     requires { length bytes.now < 2 ^ 32 }
     ensures { MatchOption result (All IsDigit bytes.now) (IsFirstOther bytes.now) }
 {
@@ -21,7 +21,7 @@ pub(crate) fn first_other(bytes: &[u8]) -> Option<u32>
 }
 
 /// The place of the first byte that equals the next one, the last byte's next being the first.
-pub(crate) fn first_repeat(bytes: &[u8]) -> Option<u32>
+pub fn first_repeat(bytes: &[u8]) -> Option<u32>
     requires { length bytes.now < 2 ^ 32 }
     ensures { MatchOption result (NeighboursDiffer bytes.now) (IsFirstRepeat bytes.now) }
 {

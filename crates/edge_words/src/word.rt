@@ -10,7 +10,7 @@ use crate::MAX_LETTERS;
 use crate::fault::WordFault;
 use crate::order::{compare_rotated, is_at_most_rotations};
 use crate::reading::{first_other, first_repeat, letters_of, to_digits};
-use crate::stability::is_balanced;
+use crate::stability::is_stable;
 use mcb_ends::{Failed, Sink, put};
 use smallvec::SmallVec;
 use std::alloc::Global;
@@ -57,6 +57,16 @@ impl Word {
         })
     }
 
+    /// The word with these letters, which have to be those of one.
+    pub fn from_letters(alloc: Global, letters: &[u8]) -> Word
+        requires { IsWord letters.now }
+        ensures { result ≡ letters.now }
+    {
+        Word {
+            letters: SmallVec::from_slice(alloc, letters).unwrap(),
+        }
+    }
+
     /// The letters, as the numbers 1, 2 and 3.
     pub fn letters(&self) -> &[u8]
         ensures all { result.now ≡ self.now }
@@ -69,8 +79,7 @@ impl Word {
     pub fn is_stable(&self) -> bool
         ensures { IsTrue result ↔ IsStable self.now }
     {
-        let letters = self.letters();
-        is_balanced(letters, 1) && is_balanced(letters, 2) && is_balanced(letters, 3)
+        is_stable(self.letters())
     }
 
     /// The same word once more.

@@ -7,13 +7,14 @@ use Rattle.std.proofs.lemmas.Bool.Decides.{nat_tests}
 use Rattle.std.proofs.lemmas.Nat.{mod-mul-add}
 use Rattle.std.proofs.lemmas.List.{get_or-take}
 use Rattle.std.proofs.lemmas.List.Elements.{All-take}
+use Rattle.std.specs.List.{All}
 use Rattle.ring_solver.specs.Expression.{var, num, opp, ◌⊞◌, ◌⊟◌}
 use Rattle.ring_solver.proofs.Solver.{ring}
 use Rattle.edge_words.specs.Letters.{IsLetter, IsPlace}
 use Rattle.edge_words.specs.Word.{IsWord, NeighboursDiffer}
 use Rattle.edge_words.specs.Stable.{count_of}
 use Rattle.exp_sums.specs.declared.direction.Dir.{Dir}
-use Rattle.edge_words.proofs.Balance.{once, count_of-cons}
+use Rattle.edge_words.proofs.Balance.{once, count_of-cons, count_at_most}
 use Rattle.exp_sums.specs.FormalPoint.{monomial, zero_point, negative, ◌+ₚ◌, ◌-ₚ◌}
 use Rattle.exp_sums.specs.Limits.{weight, IsNear, IsWithin}
 use Rattle.exp_sums.proofs.PointRing.{point_ring}
@@ -65,6 +66,22 @@ corner_dir_near c = by_tests (c == 1) (c == 2)
     by_tests true b = record { m = omega arith; n = omega arith }
     by_tests false true = record { m = omega arith; n = omega arith }
     by_tests false false = record { m = omega arith; n = omega arith }
+
+-- after each of its letters, the corners of a list are seen near
+abbrev pub IsSeenNear : List ℕ → Type 0
+IsSeenNear w = (k c : ℕ) → k ≤ length w → IsNear 65 (mirrored_dir (take k w) (corner_dir c))
+
+-- so it is with few letters, whatever they are
+pub few_seen_near : (w : List ℕ) → All IsLetter w → length w ≤ 32 → IsSeenNear w
+few_seen_near w letters few k c below =
+    let v = take k w in
+    let of_v = All-take IsLetter k w letters in
+    let short : length v ≤ 32 = omega (arith, length-take k w, few) in
+    let near = corner_dir_near c in
+    record {
+      m = omega (arith, near.m, short, count_at_most 2 v, mirrored_dir-near-m v (corner_dir c) of_v);
+      n = omega (arith, near.n, short, count_at_most 1 v, mirrored_dir-near-n v (corner_dir c) of_v);
+    }
 
 -- a corner as it is seen from the centre
 pub seen_near : (w : List ℕ) (k c : ℕ) → IsWord w → k ≤ length w → IsNear 65 (mirrored_dir (take k w) (corner_dir c))
@@ -189,25 +206,29 @@ weight-corner w k c h =
     (omega (arith, weight-+ₚ (centre_of w k) (signed_point (seen_of (take k w) c)), weight-centre w k h, weight-signed_point (seen_of (take k w) c)))
 
 -- the directions of centres and corners
-within-signed : (w : List ℕ) (k c : ℕ) → IsWord w → k ≤ length w → IsWithin 65 (signed_point (seen_of (take k w) c))
-within-signed w k c word h = IsWithin-monomial 65 _ (mirrored_dir (take k w) (corner_dir c)) (seen_near w k c word h)
+within-signed : (w : List ℕ) (k c : ℕ) → IsSeenNear w → k ≤ length w → IsWithin 65 (signed_point (seen_of (take k w) c))
+within-signed w k c near h = IsWithin-monomial 65 _ (mirrored_dir (take k w) (corner_dir c)) (near k c h)
 
-pub within-centre : (w : List ℕ) (k : ℕ) → IsWord w → k ≤ length w → IsWithin 65 (centre_of w k)
-within-centre w zero word h = IsWithin-zero_point 65
-within-centre w (suc k) word h =
+pub within_seen : (w : List ℕ) (k : ℕ) → IsSeenNear w → k ≤ length w → IsWithin 65 (centre_of w k)
+within_seen w zero near h = IsWithin-zero_point 65
+within_seen w (suc k) near h =
     let below : k < length w = omega (arith, h) in
     let d = get_or w k 0 in
     let s = signed_point (seen_of (take k w) (next_corner d)) in
     let s' = signed_point (seen_of (take k w) (next_corner (next_corner d))) in
     subst (IsWithin 65) (sym (centre-next w k below))
     (IsWithin-+ₚ 65 (centre_of w k +ₚ s) s'
-    (IsWithin-+ₚ 65 (centre_of w k) s (within-centre w k word (omega (arith, h))) (within-signed w k (next_corner d) word (omega (arith, h))))
-    (within-signed w k (next_corner (next_corner d)) word (omega (arith, h))))
+    (IsWithin-+ₚ 65 (centre_of w k) s (within_seen w k near (omega (arith, h))) (within-signed w k (next_corner d) near (omega (arith, h))))
+    (within-signed w k (next_corner (next_corner d)) near (omega (arith, h))))
+
+pub within-centre : (w : List ℕ) (k : ℕ) → IsWord w → k ≤ length w → IsWithin 65 (centre_of w k)
+within-centre w k word h = within_seen w k (λ j c below. seen_near w j c word below) h
 
 pub within-corner : (w : List ℕ) (k c : ℕ) → IsWord w → k ≤ length w → IsWithin 65 (corner_of w k c)
 within-corner w k c word h =
     subst (IsWithin 65) (sym (corner_is_seen (take k w) c))
-    (IsWithin-+ₚ 65 (centre_of w k) (signed_point (seen_of (take k w) c)) (within-centre w k word h) (within-signed w k c word h))
+    (IsWithin-+ₚ 65 (centre_of w k) (signed_point (seen_of (take k w) c)) (within-centre w k word h)
+    (within-signed w k c (λ j e below. seen_near w j e word below) h))
 
 -- an end of one edge and an end of another
 pub ends_apart : (w : List ℕ) (k l c e : ℕ) → IsWord w → IsPlace w k → IsPlace w l → weight (corner_of w (k - 1) c -ₚ corner_of w (l - 1) e) ≤ 128

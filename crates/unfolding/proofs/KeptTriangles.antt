@@ -4,13 +4,12 @@ use Rattle.std.proofs.Common.{refl, sym, ap, ap₂, subst, ◌∙◌, ◌<◌, l
 use Rattle.std.proofs.Math.ListN.{get_or-append}
 use Rattle.std.proofs.Math.Seq.{get_or-append_seam, take-suc}
 use Rattle.std.proofs.lemmas.Bool.{cases_lt}
-use Rattle.ring_solver.specs.Expression.{var, num, ◌⊞◌}
-use Rattle.ring_solver.proofs.Solver.{ring}
+use Rattle.std.specs.List.{All}
+use Rattle.edge_words.specs.Letters.{IsLetter}
 use Rattle.edge_words.specs.Word.{IsWord}
 use Rattle.exp_sums.specs.declared.direction.Dir.{Dir}
 use Rattle.exp_sums.specs.FormalPoint.{FormalPoint, monomial, zero_point, ◌+ₚ◌}
 use Rattle.exp_sums.specs.Limits.{weight, IsNear, IsWithin, IsWithinLimits}
-use Rattle.exp_sums.proofs.PointRing.{point_ring}
 use Rattle.exp_sums.proofs.Weights.{weight-+ₚ, weight-zero_point}
 use Rattle.exp_sums.proofs.Within.{IsWithin-weaker, IsWithin-monomial, IsWithin-+ₚ, IsWithin-zero_point}
 use Rattle.unfolding.specs.declared.triangle.Triangle.{Triangle}
@@ -21,7 +20,7 @@ use Rattle.unfolding.specs.Kept.{dirs_of, triangle_of, IsSmall, AreTrianglesOf, 
 use Rattle.unfolding.proofs.MirroredDirs.{letter_cases, is_reversed-length}
 use Rattle.unfolding.proofs.Seen.{corner_is_seen, centre-snoc}
 use Rattle.unfolding.proofs.Crossing.{All-three}
-use Rattle.unfolding.proofs.Bounds.{weight-signed, seen_near, weight-centre, within-centre}
+use Rattle.unfolding.proofs.Bounds.{IsSeenNear, few_seen_near, weight-signed, seen_near, weight-centre, within_seen, within-centre}
 
 -- a sum that begins at the origin
 pub weight-origin : (p : FormalPoint) → p ≡ zero_point → weight p ≡ 0
@@ -98,15 +97,21 @@ next_centre_is w d start end t z z' half_way centre start_is end_is from to same
     ∙ ap₂ (λ c e. mirrors w zero_point +ₚ at c +ₚ at e) start_is (end_is ∙ ap next_corner start_is)
     ∙ sym (centre-snoc w d)
 
+-- triangles whose corners are seen near are small
+small_seen : (w : List ℕ) (k : ℕ) → IsSeenNear w → length w ≤ 64 → k ≤ length w → IsSmall (triangle_of (take k w))
+small_seen w k near short h = record {
+  light = omega (arith, weight-centre w k h, short);
+  within = within_seen w k near h;
+  near = All-three (IsNear 65) _ _ _ (near k 1 h) (near k 2 h) (near k 3 h);
+}
+
 -- the triangles of a word are small
 pub small_triangle : (w : List ℕ) (k : ℕ) → IsWord w → k ≤ length w → IsSmall (triangle_of (take k w))
-small_triangle w k word h =
-    let near : (c : ℕ) → IsNear 65 (mirrored_dir (take k w) (corner_dir c)) = λ c. seen_near w k c word h in
-    record {
-      light = omega (arith, weight-centre w k h, word.even_length.at_most);
-      within = within-centre w k word h;
-      near = All-three (IsNear 65) _ _ _ (near 1) (near 2) (near 3);
-    }
+small_triangle w k word h = small_seen w k (λ j c below. seen_near w j c word below) word.even_length.at_most h
+
+-- and those of a few letters
+pub small_among_few : (w : List ℕ) (k : ℕ) → All IsLetter w → length w ≤ 32 → k ≤ length w → IsSmall (triangle_of (take k w))
+small_among_few w k letters few h = small_seen w k (few_seen_near w letters few) (omega (arith, few)) h
 
 -- the triangle over the next letter
 pub across_is : (w : List ℕ) (k : ℕ) (t : Triangle) → k < length w → t ≡ triangle_of (take k w ++ get_or w k 0 ∷ []) → t ≡ triangle_of (take (k + 1) w)

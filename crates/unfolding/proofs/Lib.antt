@@ -2,6 +2,7 @@ pub mod MirroredDirs
 pub mod Mirrors
 pub mod Seen
 pub mod Shifts
+pub mod Translations
 pub mod Bounds
 pub mod Crossing
 pub mod KeptTriangles

@@ -31,7 +31,7 @@ seen_point-cons d w e =
     ∙ ap (λ c. monomial c (dir_sum (dir_sum p q) (dir_neg (mirrored_dir w e)))) (sign_of-not (is_reversed w))
 
 -- what is added inside a mirror comes out reflected
-mirror-+ₚ : (d : ℕ) (x y : FormalPoint) → mirror d (x +ₚ y) ≡ mirror d x +ₚ negative (start_of d *ₚ end_of d *ₚ conj y)
+pub mirror-+ₚ : (d : ℕ) (x y : FormalPoint) → mirror d (x +ₚ y) ≡ mirror d x +ₚ negative (start_of d *ₚ end_of d *ₚ conj y)
 unfolding mirror
 mirror-+ₚ d x y =
     simp conj-+ₚ

@@ -4,6 +4,7 @@
 //! nested mirrors says of that word, exactly, for all triangles at once.
 #![tactic(auto)]
 
+mod along;
 pub mod laws;
 mod signed;
 #[cfg(test)]
@@ -12,6 +13,7 @@ mod triangle;
 mod unfolding;
 mod walk;
 
+pub use along::centre_after;
 pub use signed::Signed;
 pub use triangle::next_corner;
 pub use unfolding::Unfolding;

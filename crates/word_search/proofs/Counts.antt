@@ -5,7 +5,7 @@ use Rattle.std.proofs.lemmas.Bool.Decides.{nat_tests}
 use Rattle.std.specs.Prelude.{slice_index}
 use Rattle.edge_words.specs.Letters.{IsLetter}
 use Rattle.edge_words.specs.Stable.{at_odd_places, at_even_places, count_of}
-use Rattle.edge_words.proofs.Balance.{once, count_of-cons, counts_even, counts_odd}
+use Rattle.edge_words.proofs.Balance.{once, count_of-cons, counts_even, counts_odd, count_at_most}
 use Rattle.word_search.specs.Prefixes.{AreCounts, excess, IsLeft}
 use Rattle.word_search.specs.Words.{IsSearched}
 
@@ -107,11 +107,6 @@ counts_more_even p odd even more y h next are = record {
   at_odd = λ x letter. let both = counts_odd x p (y ∷ []) h in omega (arith, are.at_odd x letter, both.0);
   at_even = λ x letter. next x letter ∙ ap (λ n. n + count_of x (y ∷ [])) (are.at_even x letter) ∙ sym (counts_odd x p (y ∷ []) h).1;
 }
-
--- a count is at most the length
-count_at_most : (x : ℕ) (w : List ℕ) → count_of x w ≤ length w
-count_at_most x [] = omega arith
-count_at_most x (a ∷ w) = let one : once x a ≤ 1 = grind (arith, nat_tests) in omega (arith, count_at_most x w, one, count_of-cons x a w)
 
 -- so the counts are few
 pub counts_few : (p odd even : List ℕ) (x : ℕ) → IsLetter x → AreCounts p odd even → (slice_index odd x ≤ length p) × (slice_index even x ≤ length p)

@@ -1,0 +1,5 @@
+pub mod Links
+pub mod MemberShifts
+pub mod MemberStability
+pub mod Members
+pub mod Readings
