@@ -15,4 +15,6 @@ pub mod CoverAnswers
 pub mod CoverSizes
 pub mod DemoAnswers
 pub mod SearchAnswers
+pub mod PointsAnswers
+pub mod CornerRows
 pub mod OneAnswer

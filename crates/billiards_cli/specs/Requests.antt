@@ -14,8 +14,9 @@ use Rattle.billiards_cli.specs.Commands.Cover.{cover_request, cover_reads_to, Is
 use Rattle.billiards_cli.specs.Commands.Job.{job_request, IsJobAnswer, IsJobDue}
 use Rattle.billiards_cli.specs.Commands.Demo.{demo_request, IsDemoAnswer, IsDemoDue}
 use Rattle.billiards_cli.specs.Commands.Search.{search_request, IsSearchAnswer, IsSearchDue}
+use Rattle.billiards_cli.specs.Commands.Points.{points_request, IsPointsAnswer, IsPointsDue}
 use Rattle.billiards_cli.specs.declared.request.Request.{Request}
-use Rattle.billiards_cli.specs.declared.request.Request.TheVariants.{Word, Check, At, Cover, Job, Demo, Search}
+use Rattle.billiards_cli.specs.declared.request.Request.TheVariants.{Word, Check, At, Cover, Job, Demo, Search, Points}
 
 -- the commands by their names: what the arguments after a name ask of it, if anything
 abbrev pub request_named : List ℕ → List (List ℕ) → Option Request
@@ -27,7 +28,8 @@ request_named name arguments =
     (if bytes_eq name (codes "job") then job_request arguments else
     (if bytes_eq name (codes "demo") then demo_request arguments else
     (if bytes_eq name (codes "search") then search_request arguments else
-    None))))))
+    (if bytes_eq name (codes "points") then points_request arguments else
+    None)))))))
 
 abbrev pub request_of : List (List ℕ) → Option Request
 request_of [] = None
@@ -76,4 +78,10 @@ command_of (Search triangle bound) = record {
   reads_to = λ status. ToALine;
   IsRight = λ input. IsSearchAnswer triangle bound;
   IsDue = λ input. IsSearchDue;
+}
+command_of (Points word triangle) = record {
+  reads = Nothing;
+  reads_to = λ status. ToALine;
+  IsRight = λ input. IsPointsAnswer word triangle;
+  IsDue = λ input. IsPointsDue word;
 }

@@ -4,5 +4,6 @@ pub(crate) mod check;
 pub(crate) mod cover;
 pub(crate) mod demo;
 pub(crate) mod job;
+pub(crate) mod points;
 pub(crate) mod search;
 pub(crate) mod word;

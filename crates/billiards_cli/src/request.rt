@@ -10,6 +10,7 @@ use crate::commands::check::{self, check};
 use crate::commands::cover::{self, cover};
 use crate::commands::demo::{self, demo};
 use crate::commands::job::{self, job};
+use crate::commands::points::{self, points};
 use crate::commands::search::{self, search};
 use crate::commands::word::{self, word};
 use crate::{Args, JobNumber, SearchBound, Status, Triangle, WordArgument};
@@ -39,6 +40,11 @@ pub(crate) enum Request<'a> {
         triangle: Triangle,
         bound: SearchBound,
     },
+    /// The corners of a word's unfolding in a triangle, as numbers.
+    Points {
+        word: WordArgument<'a>,
+        triangle: Triangle,
+    },
 }
 
 /// The request of a command line: its first argument is the name of a command.
@@ -60,6 +66,8 @@ pub(crate) fn parse(arguments: &Args) -> Option<Request<'_>>
         demo::request(&arguments)
     } else if name == b"search".as_slice() {
         search::request(&arguments)
+    } else if name == b"points".as_slice() {
+        points::request(&arguments)
     } else {
         None
     }
@@ -88,5 +96,6 @@ pub(crate) fn obey<S: Source, K: Sink>(
         Request::Job(number) => job(number, out),
         Request::Demo(number) => demo(alloc, number, out),
         Request::Search { triangle, bound } => search(alloc, triangle, bound, out),
+        Request::Points { word, triangle } => points(alloc, word, triangle, out),
     }
 }

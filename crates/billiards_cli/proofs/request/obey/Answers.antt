@@ -19,3 +19,8 @@ pub returns-in-Search-clause-serves : goal.returns-in-Search-clause-serves
 returns-in-Search-clause-serves g c =
     let s = g.S.Source in
     rw c.in-Search.is (c.search.ensures.serves (s.left c.args.src.now) (s.faults c.args.src.now))
+
+pub returns-in-Points-clause-serves : goal.returns-in-Points-clause-serves
+returns-in-Points-clause-serves g c =
+    let s = g.S.Source in
+    rw c.in-Points.is (c.points.ensures.serves (s.left c.args.src.now) (s.faults c.args.src.now))
