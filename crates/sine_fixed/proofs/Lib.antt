@@ -6,3 +6,4 @@ pub mod QuarterSquare
 pub mod Sizes
 pub mod Negative
 pub mod Sines
+pub mod Chains
