@@ -6,7 +6,7 @@ use Rattle.std.proofs.Math.Seq.{get_or-append_seam}
 use Rattle.std.proofs.lemmas.Bool.{cases_lt}
 use Rattle.std.proofs.lemmas.Option.{slice_get_within, slice_get_past, get_or_from_slice_get, slice_get-get_or}
 use Rattle.exp_sums.specs.FormalPoint.{FormalPoint}
-use Rattle.unfolding.specs.Shift.{IsShift, HasShift}
+use Rattle.unfolding.specs.Shift.{HasShift}
 use Rattle.unfolding.specs.Triangle.{corner_of}
 use Rattle.unfolding.proofs.Shifts.{same_shift}
 use Rattle.plane_points.specs.Spots.{TriangleAngles, IsSpotOf}

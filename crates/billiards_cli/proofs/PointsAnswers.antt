@@ -1,5 +1,5 @@
 -- The right answers of `points`.
-use Rattle.std.proofs.Common.{◌≡◌, ℕ, List, Option, refl, inl, inr}
+use Rattle.std.proofs.Common.{ℕ, List, Option, refl, inl, inr}
 use Rattle.billiards_cli.specs.Arguments.{Angles}
 use Rattle.billiards_cli.specs.Commands.Points.{IsPointsAnswer, IsPointsDue}
 use Rattle.billiards_cli.specs.Requests.{command_of}
