@@ -1,4 +1,4 @@
-use crate::tests::fixtures::{arguments_of, assert_answer, source};
+use crate::tests::fixtures::{arguments_of, assert_answer, sink, source};
 use crate::{Status, run};
 use mcb_ends::MemSink;
 use std::alloc::{AllocError, Global};
@@ -59,5 +59,22 @@ fn points_refuses_other_words(rt: HostRuntime) -> Result<(), Fail> {
     let arguments = arguments_of(rt.alloc(), &["points", "123121", "1", "1", "3"])?;
     let refused = "refused argument reason=7\n";
     assert_answer(&rt, &arguments, b"", Status::Malformed, refused)?;
+    let arguments = arguments_of(rt.alloc(), &["points", "123123", "1", "1", "2"])?;
+    assert_answer(&rt, &arguments, b"", Status::Usage, "")?;
+    Ok(())
+}
+
+// A sink that fails in its third call has what it took before.
+#[test]
+fn points_lays_a_fault_to_the_sink(rt: HostRuntime) -> Result<(), Fail> {
+    let arguments = arguments_of(rt.alloc(), &["points", "123123", "1", "1", "3"])?;
+    let mut src = source(rt.alloc(), b"", 16, &[1])?;
+    let mut out = sink(rt.alloc(), &[3])?;
+    assert_eq!(rt;
+        run(rt.alloc(), &arguments, &mut src, &mut out),
+        Status::WriteFault
+    );
+    assert_eq!(rt; out.bytes(), b"0 ".as_slice());
+    assert_eq!(rt; src.faults(), 0);
     Ok(())
 }
