@@ -5,6 +5,7 @@ use Rattle.line_grammar.specs.declared.reason.Reason.{Reason}
 use Rattle.rat_core.specs.Written.{Written, value}
 use Rattle.std.specs.declared.result.Result.{Result}
 use Rattle.svg_pictures.specs.UnfoldingPicture.{WritesUnfolding}
+use Rattle.billiards_cli.proofs.WordArguments.{word_not_refused}
 use Rattle.billiards_cli.specs.Arguments.{Angles, RefusesAnyWord}
 use Rattle.billiards_cli.specs.Commands.At.{AtTriangle}
 use Rattle.billiards_cli.specs.Commands.Unfold.{IsUnfoldAnswer, IsUnfoldDue}
@@ -15,11 +16,6 @@ use Rattle.billiards_cli.specs.declared.status.Status.{Status}
 use Rattle.billiards_cli.specs.declared.status.Status.TheVariants.{Done, Malformed, OutOfMemory}
 use Rattle.billiards_cli.proofs.Inputs.{some_input}
 use Rattle.billiards_cli.proofs.WordArguments.{any_word_is_form}
-
--- an argument that spells a word is not refused
-word_not_refused : (argument w : List ℕ) (reason : Reason) → Spells argument w → ¬ (RefusesAnyWord argument reason)
-word_not_refused argument w reason spells refused =
-    any_word_is_form.passes w reason spells.is_word (subst (λ (bytes : List ℕ). RefusesAnyWord bytes reason) spells.digits refused)
 
 unfold_answer_is_due : (argument : List ℕ) (triangle : Angles) (status : Status) (text : List ℕ)
     → IsUnfoldAnswer argument triangle status text → IsUnfoldDue argument status

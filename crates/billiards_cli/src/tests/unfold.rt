@@ -71,6 +71,9 @@ fn unfold_draws_an_unstable_word(rt: HostRuntime) -> Result<(), Fail> {
     let arguments = arguments_of(rt.alloc(), &["unfold", "121323", "1", "1", "3"])?;
     let mut src = source(rt.alloc(), b"", 16, &[1])?;
     let mut out = MemSink::new(rt.alloc(), 4096, 7, Vec::new(rt.alloc()))?;
-    assert_eq!(rt; run(rt.alloc(), &arguments, &mut src, &mut out), Status::Done);
+    assert_eq!(rt;
+        run(rt.alloc(), &arguments, &mut src, &mut out),
+        Status::Done
+    );
     Ok(())
 }

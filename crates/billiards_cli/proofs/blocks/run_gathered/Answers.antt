@@ -36,10 +36,10 @@ returns-clause-serves g c =
     (sym c.after_writing.ensures.after)
     (passed_on_asked asked before mid (k.written out) (k.faults out) c.run-status.result c.finish-out.result.1 serves on
     (λ nothing.
-      let stands = c.run-status.ensures.unwritten nothing in
-      let idle = c.finish-out.ensures.idle (ap gathered_held stands ∙ c.new-gathered.ensures.held) in
-      let same : out ≡ c.args.out = idle.0 ∙ ap gathered_sink stands ∙ c.new-gathered.ensures.sink in
-      (ap k.written same, ap k.faults same, idle.1)))
+    let stands = c.run-status.ensures.unwritten nothing in
+    let idle = c.finish-out.ensures.idle (ap gathered_held stands ∙ c.new-gathered.ensures.held) in
+    let same : out ≡ c.args.out = idle.0 ∙ ap gathered_sink stands ∙ c.new-gathered.ensures.sink in
+    (ap k.written same, ap k.faults same, idle.1)))
 
 pub returns-clause-complete : goal.returns-clause-complete
 returns-clause-complete g c = λ stood. decided_asked (request_of c.args.arguments.now) _ _ c.after_writing.result (returns-clause-serves g c) stood

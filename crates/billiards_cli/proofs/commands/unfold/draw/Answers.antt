@@ -7,4 +7,4 @@ pub returns-clause-text : goal.returns-clause-text
 returns-clause-text g c =
     let k = g.K.Sink in
     subst₂ (λ (x y : Written). WritesUnfolding c.args.unfolding.now (value x) (value y) (k.written c.args.out.now) (k.written c.write_unfolding.new.out)
-        c.write_unfolding.result) c.first.ensures.angle c.second.ensures.angle c.write_unfolding.ensures.text
+    c.write_unfolding.result) c.first.ensures.angle c.second.ensures.angle c.write_unfolding.ensures.text
