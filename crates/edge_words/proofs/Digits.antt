@@ -27,7 +27,7 @@ pub letters_of_digits : (bytes w : List ℕ) → bytes ≡ digits_of w → All I
 letters_of_digits bytes w e digits =
     let len : length bytes ≡ length w = ap length e ∙ length-map w (λ x. x + 48) in
     All-from_get_or IsLetter w 0 (λ k h. let d = All-get_or IsDigit bytes k 0 (omega (arith, len, h)) digits in let v : get_or bytes k 0
-        ≡ get_or w k 0 + 48 = ap (λ xs. get_or xs k 0) e ∙ digit_at w k h in (omega (arith, d, v), omega (arith, d, v)))
+    ≡ get_or w k 0 + 48 = ap (λ xs. get_or xs k 0) e ∙ digit_at w k h in (omega (arith, d, v), omega (arith, d, v)))
 
 -- and what spells letters is digits
 pub digits_of_letters : (bytes w : List ℕ) → bytes ≡ digits_of w → All IsLetter w → All IsDigit bytes
