@@ -17,5 +17,7 @@ pub mod DemoAnswers
 pub mod SearchAnswers
 pub mod TileAnswers
 pub mod OneTile
+pub mod PointsAnswers
+pub mod CornerRows
 pub mod OneAnswer
 pub mod UnfoldAnswers

@@ -1,6 +1,6 @@
 -- Words as lines and as arguments.
-use Rattle.std.proofs.Common.{◌≡◌, ◌<◌, ℕ, List, refl, lit<}
-use Rattle.edge_words.specs.Reading.{digits_of}
+use Rattle.std.proofs.Common.{◌≡◌, ◌<◌, ℕ, List, refl, subst, lit<}
+use Rattle.edge_words.specs.Reading.{Spells, digits_of}
 use Rattle.edge_words.specs.Word.{IsWord}
 use Rattle.edge_words.proofs.Digits.{digits_of-injective}
 use Rattle.line_grammar.specs.Form.{IsForm}
@@ -39,3 +39,8 @@ any_word_is_form = record {
   one_reason = one_reason;
   whole = is_whole;
 }
+
+-- an argument that spells a word is not refused
+pub word_not_refused : (argument w : List ℕ) (reason : Reason) → Spells argument w → ¬ (RefusesAnyWord argument reason)
+word_not_refused argument w reason spells refused =
+    passes w reason spells.is_word (subst (λ (bytes : List ℕ). RefusesAnyWord bytes reason) spells.digits refused)

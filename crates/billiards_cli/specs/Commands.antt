@@ -8,3 +8,4 @@ pub mod Demo
 pub mod Search
 pub mod Tile
 pub mod Unfold
+pub mod Points

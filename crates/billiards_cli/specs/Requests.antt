@@ -16,8 +16,9 @@ use Rattle.billiards_cli.specs.Commands.Demo.{demo_request, IsDemoAnswer, IsDemo
 use Rattle.billiards_cli.specs.Commands.Search.{search_request, IsSearchAnswer, IsSearchDue}
 use Rattle.billiards_cli.specs.Commands.Tile.{tile_request, IsTileAnswer, IsTileDue}
 use Rattle.billiards_cli.specs.Commands.Unfold.{unfold_request, IsUnfoldAnswer, IsUnfoldDue}
+use Rattle.billiards_cli.specs.Commands.Points.{points_request, IsPointsAnswer, IsPointsDue}
 use Rattle.billiards_cli.specs.declared.request.Request.{Request}
-use Rattle.billiards_cli.specs.declared.request.Request.TheVariants.{Word, Check, At, Cover, Job, Demo, Search, Tile, Unfold}
+use Rattle.billiards_cli.specs.declared.request.Request.TheVariants.{Word, Check, At, Cover, Job, Demo, Search, Tile, Unfold, Points}
 
 -- the commands by their names: what the arguments after a name ask of it, if anything
 abbrev pub request_named : List ℕ → List (List ℕ) → Option Request
@@ -31,7 +32,8 @@ request_named name arguments =
     (if bytes_eq name (codes "search") then search_request arguments else
     (if bytes_eq name (codes "tile") then tile_request arguments else
     (if bytes_eq name (codes "unfold") then unfold_request arguments else
-    None))))))))
+    (if bytes_eq name (codes "points") then points_request arguments else
+    None)))))))))
 
 abbrev pub request_of : List (List ℕ) → Option Request
 request_of [] = None
@@ -92,4 +94,10 @@ command_of (Unfold word triangle) = record {
   reads_to = λ status. ToALine;
   IsRight = λ input. IsUnfoldAnswer word triangle;
   IsDue = λ input. IsUnfoldDue word;
+}
+command_of (Points word triangle) = record {
+  reads = Nothing;
+  reads_to = λ status. ToALine;
+  IsRight = λ input. IsPointsAnswer word triangle;
+  IsDue = λ input. IsPointsDue word;
 }

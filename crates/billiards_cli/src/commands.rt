@@ -4,6 +4,7 @@ pub(crate) mod check;
 pub(crate) mod cover;
 pub(crate) mod demo;
 pub(crate) mod job;
+pub(crate) mod points;
 pub(crate) mod search;
 pub(crate) mod tile;
 pub(crate) mod unfold;

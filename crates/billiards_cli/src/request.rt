@@ -10,6 +10,7 @@ use crate::commands::check::{self, check};
 use crate::commands::cover::{self, cover};
 use crate::commands::demo::{self, demo};
 use crate::commands::job::{self, job};
+use crate::commands::points::{self, points};
 use crate::commands::search::{self, search};
 use crate::commands::tile::{self, tile};
 use crate::commands::unfold::{self, unfold};
@@ -51,6 +52,11 @@ pub(crate) enum Request<'a> {
         word: WordArgument<'a>,
         triangle: Triangle,
     },
+    /// The corners of a word's unfolding in a triangle, as numbers.
+    Points {
+        word: WordArgument<'a>,
+        triangle: Triangle,
+    },
 }
 
 /// The request of a command line: its first argument is the name of a command.
@@ -76,6 +82,8 @@ pub(crate) fn parse(arguments: &Args) -> Option<Request<'_>>
         tile::request(&arguments)
     } else if name == b"unfold".as_slice() {
         unfold::request(&arguments)
+    } else if name == b"points".as_slice() {
+        points::request(&arguments)
     } else {
         None
     }
@@ -106,5 +114,6 @@ pub(crate) fn obey<S: Source, K: Sink>(
         Request::Search { triangle, bound } => search(alloc, triangle, bound, out),
         Request::Tile { word, depth } => tile(alloc, word, depth, out),
         Request::Unfold { word, triangle } => unfold(alloc, word, triangle, out),
+        Request::Points { word, triangle } => points(alloc, word, triangle, out),
     }
 }

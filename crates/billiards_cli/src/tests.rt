@@ -5,6 +5,7 @@ mod cover;
 mod demo;
 mod fixtures;
 mod job;
+mod points;
 mod search;
 mod tile;
 mod unfold;

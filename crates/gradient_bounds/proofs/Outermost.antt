@@ -1,7 +1,9 @@
 -- What holds of the numbers of all edges of a list.
-use Rattle.std.proofs.Common.{ℕ, ◌+◌, ◌<◌, List, length, slice_index_or, subst, ℤ, ◌≤ℤ◌, ◌<ℤ◌, below_more, arith}
+use Rattle.std.proofs.Common.{ℕ, ◌+◌, ◌-◌, ◌^◌, ◌<◌, ◌≤◌, List, pos, unsigned_abs, FitsSigned, length, slice_index_or, subst, ℤ, ◌≤ℤ◌, ◌<ℤ◌, below_more, arith}
+use Rattle.std.specs.Int.{w128}
+use Rattle.std.specs.List.{All}
 use Rattle.std.specs.Prelude.{◌↔◌, IsTrue, false}
-use Rattle.std.proofs.lemmas.Int.{ints, by_lt_z}
+use Rattle.std.proofs.lemmas.Int.{ints, by_lt_z, fits_signed_from_abs}
 use Rattle.std.proofs.lemmas.List.{get_or_default}
 use Rattle.gradient_bounds.proofs.Deciding.{false_not}
 
@@ -22,3 +24,9 @@ at_most_itself a = omega (arith, ints)
 
 pub at_most_through : (a b c : ℤ) → a ≤ℤ b → b ≤ℤ c → a ≤ℤ c
 at_most_through a b c h k = omega (arith, ints)
+
+-- the number of an edge fits its type
+pub number_fits : (numbers : List ℤ) → All (λ z. unsigned_abs z ≤ 2 ^ 76) numbers → (e : ℕ) → (1 ≤ e) × (e ≤ length numbers)
+    → FitsSigned w128 (slice_index_or numbers (e - 1) (pos 0))
+number_fits numbers small e inside =
+    fits_signed_from_abs w128 (slice_index_or numbers (e - 1) (pos 0)) (omega (arith, small (e - 1) (pos 0) (omega (arith, inside.0, inside.1))))

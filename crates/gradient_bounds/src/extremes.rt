@@ -2,14 +2,11 @@
 ghost use Rattle.std.specs.Prelude.{◌↔◌, ◌-◌, ◌^◌, ◌<◌, ◌≤◌, ◌≤ℤ◌, ◌<ℤ◌, length, slice_index_or, pos, unsigned_abs, IsTrue};
 ghost use Rattle.std.specs.List.{All};
 
-/// Whether the number of one edge is less than that of another.
-fn is_less(numbers: &[i128], first: u32, second: u32) -> bool
-    requires first { (1 ≤ first) × (first ≤ length numbers.now) }
-    requires second { (1 ≤ second) × (second ≤ length numbers.now) }
-    requires small { All (λ z. unsigned_abs z ≤ 2 ^ 76) numbers.now }
-    ensures { IsTrue result ↔ slice_index_or numbers.now (first - 1) (pos 0) <ℤ slice_index_or numbers.now (second - 1) (pos 0) }
+/// Whether a number is less than another one.
+fn is_less(first: i128, second: i128) -> bool
+    ensures { IsTrue result ↔ (first <ℤ second) }
 {
-    numbers[first as usize - 1] < numbers[second as usize - 1]
+    first < second
 }
 
 /// The edge, of some that are counted from 1, with the least number.
@@ -21,9 +18,12 @@ pub fn least(numbers: &[i128], edges: &[u32]) -> u32
     ensures least { All (λ e. slice_index_or numbers.now (result - 1) (pos 0) ≤ℤ slice_index_or numbers.now (e - 1) (pos 0)) edges.now }
 {
     let mut place = edges[0];
+    let mut number = numbers[place as usize - 1];
     for &edge in edges {
-        if is_less(numbers, edge, place) {
+        let next = numbers[edge as usize - 1];
+        if is_less(next, number) {
             place = edge;
+            number = next;
         }
     }
     place
@@ -38,9 +38,12 @@ pub fn greatest(numbers: &[i128], edges: &[u32]) -> u32
     ensures greatest { All (λ e. slice_index_or numbers.now (e - 1) (pos 0) ≤ℤ slice_index_or numbers.now (result - 1) (pos 0)) edges.now }
 {
     let mut place = edges[0];
+    let mut number = numbers[place as usize - 1];
     for &edge in edges {
-        if is_less(numbers, place, edge) {
+        let next = numbers[edge as usize - 1];
+        if is_less(number, next) {
             place = edge;
+            number = next;
         }
     }
     place

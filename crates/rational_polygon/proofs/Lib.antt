@@ -4,5 +4,6 @@ pub mod Fan
 pub mod Grid
 pub mod Halves
 pub mod Numbers
+pub mod Regions
 pub mod Separation
 pub mod Sides

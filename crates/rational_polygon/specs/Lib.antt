@@ -3,4 +3,5 @@ pub mod Square
 pub mod Outline
 pub mod Apart
 pub mod Fault
+pub mod Region
 pub mod Laws

@@ -4,11 +4,13 @@ ghost use Rattle.rational_polygon.specs.Point.{IsStrictlyRight};
 ghost use Rattle.rational_polygon.specs.Square.{child, box_corner, centre, IsBox};
 ghost use Rattle.rational_polygon.specs.Outline.{IsNumber, corner, next};
 ghost use Rattle.rational_polygon.specs.Apart.{IsBeyond, IsRightOf, IsApart};
+ghost use Rattle.rational_polygon.specs.Region.{IsApartFromRegion};
 
 use crate::MAX_LEVEL;
 use crate::edge::side_of_edge;
 use crate::polygon::Polygon;
 use crate::rectangle::{is_beyond_across, is_beyond_up};
+use crate::region::Region;
 use rat_core::Frac;
 use std::marker::Model;
 
@@ -65,6 +67,18 @@ impl GridBox {
         ensures { IsTrue result ↔ IsApart self polygon.now }
     {
         self.is_beyond(polygon) || self.is_right_of_an_edge(polygon)
+    }
+
+    /// Whether the box is apart from each polygon of the region.
+    pub fn apart_region(self, region: &Region) -> bool
+        ensures { IsTrue result ↔ IsApartFromRegion self region.now }
+    {
+        for polygon in region.polygons() {
+            if !self.apart(polygon) {
+                return false;
+            }
+        }
+        true
     }
 
     /// The corner `(a, b)`, where `(0, 0)` is lower left and `(1, 1)` upper right, over the denominator `2^level`.

@@ -1,4 +1,4 @@
-use crate::{GridBox, Polygon, PolygonFault};
+use crate::{GridBox, Polygon, PolygonFault, Region, RegionFault};
 use rat_core::Frac;
 use std::alloc::{AllocError, Global};
 use std::test::Fail;
@@ -227,4 +227,62 @@ fn children_and_centres(rt: HostRuntime) {
     let (x, y) = lower_right.centre();
     assert_eq!(rt; (x.num(), x.den()), (3, 4));
     assert_eq!(rt; (y.num(), y.den()), (1, 4));
+}
+
+// The fault of a region of so many right triangles, each on the grid of its place.
+fn region_fault_of(alloc: Global, grids: &[u32]) -> Result<Option<RegionFault>, Fail> {
+    let mut polygons = Vec::new(alloc);
+    for grid in grids {
+        polygons.push(Polygon::new(*grid, RIGHT.to_vec(alloc)?)?)?;
+    }
+    Ok(Region::new(polygons).err())
+}
+
+#[test]
+fn regions_have_1_to_8_polygons_on_one_grid(rt: HostRuntime) -> Result<(), Fail> {
+    let alloc = rt.alloc();
+    assert_eq!(rt; region_fault_of(alloc, &[])?, Some(RegionFault::Count));
+    assert_eq!(rt; region_fault_of(alloc, &[64])?, None);
+    assert_eq!(rt; region_fault_of(alloc, &[64; 8])?, None);
+    assert_eq!(rt; region_fault_of(alloc, &[64; 9])?, Some(RegionFault::Count));
+    assert_eq!(rt;
+        region_fault_of(alloc, &[64, 64, 65, 66])?,
+        Some(RegionFault::Grid { i: 3 })
+    );
+    Ok(())
+}
+
+#[test]
+fn a_region_is_the_union_of_its_polygons(rt: HostRuntime) -> Result<(), Fail> {
+    let alloc = rt.alloc();
+    let far = [(36, 8), (40, 8), (36, 12)];
+    let mut polygons = Vec::new(alloc);
+    polygons.push(Polygon::new(64, RIGHT.to_vec(alloc)?)?)?;
+    polygons.push(Polygon::new(64, far.to_vec(alloc)?)?)?;
+    let region = Region::new(polygons)?;
+    assert_eq!(rt; region.polygons().len(), 2);
+    assert!(rt; region.holds(Frac::new(1, 4), Frac::new(1, 4)));
+    assert!(rt; region.holds(Frac::new(9, 16), Frac::new(1, 8)));
+    assert!(rt; !region.holds(Frac::new(17, 32), Frac::new(1, 4)));
+
+    // In the first, in the second, and between the two.
+    let in_first = GridBox {
+        i: 20,
+        j: 20,
+        level: 6,
+    };
+    let in_second = GridBox {
+        i: 37,
+        j: 8,
+        level: 6,
+    };
+    let between = GridBox {
+        i: 33,
+        j: 13,
+        level: 6,
+    };
+    assert!(rt; !in_first.apart_region(&region));
+    assert!(rt; !in_second.apart_region(&region));
+    assert!(rt; between.apart_region(&region));
+    Ok(())
 }

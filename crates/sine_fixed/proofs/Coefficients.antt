@@ -1,5 +1,5 @@
 -- The table of the coefficients: each entry is at most one unit below its coefficient, and they fall.
-use Rattle.std.proofs.Common.{ℕ, zero, suc, ◌-◌, ◌*◌, ◌/◌, ◌^◌, ◌<◌, ◌≤◌, ◌≡◌, subst, arith, lit≤, mul-le-mul, slice_index_or}
+use Rattle.std.proofs.Common.{ℕ, zero, suc, ◌+◌, ◌*◌, ◌/◌, ◌^◌, ◌<◌, ◌≤◌, arith, lit≤, mul-le-mul, slice_index_or}
 use Rattle.std.proofs.Math.Nat.{div-le_of_le-mul}
 use Rattle.rat_core.specs.Fraction.{◌÷◌, ◌+ℚ◌, ◌*ℚ◌, at_most}
 use Rattle.sine_fixed.specs.declared.series.TheConstants.{COEFFICIENTS}
@@ -102,12 +102,22 @@ entry_small (suc (suc (suc (suc (suc (suc (suc (suc (suc (suc zero)))))))))) h =
 entry_small (suc (suc (suc (suc (suc (suc (suc (suc (suc (suc (suc zero))))))))))) h = lit≤ tt
 entry_small (suc (suc (suc (suc (suc (suc (suc (suc (suc (suc (suc (suc j)))))))))))) h = absurd (omega (arith, h))
 
--- what is taken off the entry at 10 - j is at most that entry, and so is what is left
-pub taken_off : (y p j : ℕ) → j < 11 → y ≤ 2 ^ 60 → p ≤ entry (11 - j) → y * p / 2 ^ 60 ≤ entry (10 - j)
-taken_off y p j below small kept =
-    let next : 11 - j ≡ suc (10 - j) = omega arith in
-    let falls : entry (suc (10 - j)) ≤ entry (10 - j) = entry_falls (10 - j) (omega arith) in
-    let at : p ≤ entry (suc (10 - j)) = subst (λ i. p ≤ entry i) next kept in
+-- two neighbours come to at most the entry before them
+pub neighbours_small : (j : ℕ) → j < 10 → entry (suc j) + entry (suc (suc j)) ≤ entry j
+neighbours_small zero h = lit≤ tt
+neighbours_small (suc zero) h = lit≤ tt
+neighbours_small (suc (suc zero)) h = lit≤ tt
+neighbours_small (suc (suc (suc zero))) h = lit≤ tt
+neighbours_small (suc (suc (suc (suc zero)))) h = lit≤ tt
+neighbours_small (suc (suc (suc (suc (suc zero))))) h = lit≤ tt
+neighbours_small (suc (suc (suc (suc (suc (suc zero)))))) h = lit≤ tt
+neighbours_small (suc (suc (suc (suc (suc (suc (suc zero))))))) h = lit≤ tt
+neighbours_small (suc (suc (suc (suc (suc (suc (suc (suc zero)))))))) h = lit≤ tt
+neighbours_small (suc (suc (suc (suc (suc (suc (suc (suc (suc zero))))))))) h = lit≤ tt
+neighbours_small (suc (suc (suc (suc (suc (suc (suc (suc (suc (suc j)))))))))) h = absurd (omega (arith, h))
+
+-- a product with a number that is at most 1
+pub part_of : (y p : ℕ) → y ≤ 2 ^ 60 → y * p / 2 ^ 60 ≤ p
+part_of y p small =
     let product : y * p ≤ 2 ^ 60 * p = mul-le-mul {n₁ = y} {m₁ = p} {n₂ = 2 ^ 60} {m₂ = p} small (omega arith) in
-    let part : y * p / 2 ^ 60 ≤ p = div-le_of_le-mul (2 ^ 60) product in
-    omega (arith, part, at, falls)
+    div-le_of_le-mul (2 ^ 60) product

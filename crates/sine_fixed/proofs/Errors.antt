@@ -1,5 +1,5 @@
 -- How rounding changes what a number is near: errors in units of 2^-60.
-use Rattle.std.proofs.Common.{◌≡◌, refl, sym, subst, ap, ◌∙◌, ℕ, ◌+◌, ◌*◌, ◌/◌, ◌^◌, ◌<◌, ◌≤◌, pos, ◌+ℤ◌, ◌-ℤ◌, [], ◌∷◌, arith, lit<, lit≤}
+use Rattle.std.proofs.Common.{◌≡◌, refl, sym, subst, ap, ◌∙◌, ℕ, ◌+◌, ◌*◌, ◌/◌, ◌^◌, ◌<◌, ◌≤◌, pos, ◌+ℤ◌, ◌-ℤ◌, [], ◌∷◌, arith, lit<}
 use Rattle.std.proofs.Math.Nat.{div-mul-le_self}
 use Rattle.ring_solver.specs.Expression.{var, num, ◌⊞◌, ◌⊟◌, ◌⊠◌, opp}
 use Rattle.ring_solver.specs.Ordered.{le, times, same}
@@ -104,29 +104,36 @@ quarter_square_near a z w quarter nonneg small most near =
 
 -- ---- a step of the scheme, and the last product
 
--- A coefficient by itself is known to 16 units too.
-pub widened : (x : ℕ) (c : ℚ) → IsNear 0 1 x c → IsNear 16 16 x c
-widened x c near =
-    let ρ = one ∷ c ∷ whole x ∷ [] in
+-- A number that is known within 16 units above is so within 16 both ways, and one within fewer.
+pub widened : (below above x : ℕ) (v : ℚ) → below ≤ 16 → above ≤ 16 → IsNear below above x v → IsNear 16 16 x v
+widened below above x v few few' near =
+    let ρ = one ∷ v ∷ whole x ∷ whole below ∷ whole above ∷ [] in
     record {
-      low = certified ℚ_ordered ρ (var 2) (var 1 ⊠ var 0 ⊞ num 16) (le (var 2) (var 1 ⊠ var 0 ⊞ num 0) ∷ le (num 0) (num 16) ∷ []) refl
-          (near.low, (whole_nonneg 16, tt));
-      high = certified ℚ_ordered ρ (var 1 ⊠ var 0) (var 2 ⊞ num 16) (le (var 1 ⊠ var 0) (var 2 ⊞ num 1) ∷ le (num 1) (num 16) ∷ []) refl
-          (near.high, (whole_le 1 16 (lit≤ tt), tt));
+      low = certified ℚ_ordered ρ (var 2) (var 1 ⊠ var 0 ⊞ num 16) (le (var 2) (var 1 ⊠ var 0 ⊞ var 3) ∷ le (var 3) (num 16) ∷ []) refl
+          (near.low, (whole_le below 16 few, tt));
+      high = certified ℚ_ordered ρ (var 1 ⊠ var 0) (var 2 ⊞ num 16) (le (var 1 ⊠ var 0) (var 2 ⊞ var 4) ∷ le (var 4) (num 16) ∷ []) refl
+          (near.high, (whole_le above 16 few', tt));
     }
 
--- What is left of a coefficient c, of which s + r stands, where r stands for x.
-pub difference_near : (s r : ℕ) (c x : ℚ) → IsNear 0 1 (s + r) c → IsNear 12 16 r x → IsNear 16 16 s (c -ℚ x)
-difference_near s r c x near near' =
-    let ρ = one ∷ c ∷ x ∷ whole s ∷ whole r ∷ [] in
-    let sum : whole (s + r) ≡ whole s +ℚ whole r = int-add (pos s) (pos r) in
+pub above_widened : (above x : ℕ) (v : ℚ) → above ≤ 16 → IsNear 0 above x v → IsNear 0 16 x v
+above_widened above x v few near = record { low = near.low; high = (widened 0 above x v (omega arith) few near).high }
+
+-- The square of a number from 0 to 5/6.
+pub square_near : (y : ℕ) (w : ℚ) → whole 0 ≤ℚ w → whole 6 *ℚ w ≤ℚ whole 5 → IsNear 0 3 y w → IsNear 0 6 (y * y / 2 ^ 60) (w *ℚ w)
+square_near y w nonneg small near =
+    let r = y * y / 2 ^ 60 in
+    let ρ = one ∷ w ∷ whole y ∷ whole r ∷ [] in
+    let w_nonneg : whole 0 ≤ℚ w *ℚ one = mul_nonneg w one nonneg one_nonneg in
     record {
-      low = certified ℚ_ordered ρ (var 3) ((var 1 ⊟ var 2) ⊠ var 0 ⊞ num 16)
-          (le (var 3 ⊞ var 4) (var 1 ⊠ var 0 ⊞ num 0) ∷ le (var 2 ⊠ var 0) (var 4 ⊞ num 16) ∷ []) refl
-          (subst (λ t. t ≤ℚ c *ℚ one +ℚ whole 0) sum near.low, (near'.high, tt));
-      high = certified ℚ_ordered ρ ((var 1 ⊟ var 2) ⊠ var 0) (var 3 ⊞ num 16)
-          (le (var 1 ⊠ var 0) (var 3 ⊞ var 4 ⊞ num 1) ∷ le (var 4) (var 2 ⊠ var 0 ⊞ num 12) ∷ le (num 13) (num 16) ∷ []) refl
-          (subst (λ t. c *ℚ one ≤ℚ t +ℚ whole 1) sum near.high, (near'.low, (whole_le 13 16 (omega arith), tt)));
+      low = cancel_le (2 ^ 60) one_positive (whole r) (w *ℚ w *ℚ one +ℚ whole 0)
+          (certified ℚ_ordered ρ (var 3 ⊠ var 0) ((var 1 ⊠ var 1 ⊠ var 0 ⊞ num 0) ⊠ var 0)
+          (le (var 3 ⊠ var 0) (var 2 ⊠ var 2) ∷ times (var 2) (var 2) (var 1 ⊠ var 0 ⊞ num 0) ∷ times (var 1 ⊠ var 0) (var 2) (var 1 ⊠ var 0 ⊞ num 0) ∷ [])
+          refl (product_low y y (2 ^ 60), (whole_nonneg y, near.low, (w_nonneg, near.low, tt))));
+      high = cancel_le (2 ^ 60) one_positive (w *ℚ w *ℚ one) (whole r +ℚ whole 6)
+          (certified ℚ_ordered ρ (var 1 ⊠ var 1 ⊠ var 0 ⊠ var 0) ((var 3 ⊞ num 6) ⊠ var 0)
+          (times (var 1 ⊠ var 0) (var 1 ⊠ var 0) (var 2 ⊞ num 3) ∷ times (var 2) (var 1 ⊠ var 0) (var 2 ⊞ num 3)
+          ∷ le (var 2 ⊠ var 2) (var 3 ⊠ var 0 ⊞ var 0) ∷ times (num 3) (var 2) (var 1 ⊠ var 0 ⊞ num 0) ∷ times (var 0) (num 6 ⊠ var 1) (num 5) ∷ []) refl
+          (w_nonneg, near.high, (whole_nonneg y, near.high, (product_high y y (2 ^ 60) one_positive, (whole_nonneg 3, near.low, (one_nonneg, small, tt))))));
     }
 
 -- A product with a number that is known to 16 units: the error is the factor's share of these, and its own, and the rounding.
@@ -165,6 +172,50 @@ product_near y p share own w v nonneg small near near' most =
               ),
             ),
           )));
+    }
+
+-- The same with a number that is not too large: the product is not too large either.
+pub product_below : (y p share own : ℕ) (w v : ℚ) → whole 0 ≤ℚ w → whole 16 *ℚ w ≤ℚ whole share → IsNear 0 own y w → IsNear 0 16 p v → p ≤ 2 ^ 60
+    → IsNear 0 (share + (own + 1)) (y * p / 2 ^ 60) (w *ℚ v)
+product_below y p share own w v nonneg small near near' most =
+    let r = y * p / 2 ^ 60 in
+    let ρ = one ∷ w ∷ v ∷ whole y ∷ whole p ∷ whole r ∷ [] in
+    let w_nonneg : whole 0 ≤ℚ w *ℚ one = mul_nonneg w one nonneg one_nonneg in
+    record {
+      low = cancel_le (2 ^ 60) one_positive (whole r) (w *ℚ v *ℚ one +ℚ whole 0)
+          (certified ℚ_ordered ρ (var 5 ⊠ var 0) ((var 1 ⊠ var 2 ⊠ var 0 ⊞ num 0) ⊠ var 0)
+          (le (var 5 ⊠ var 0) (var 3 ⊠ var 4) ∷ times (var 4) (var 3) (var 1 ⊠ var 0 ⊞ num 0) ∷ times (var 1 ⊠ var 0) (var 4) (var 2 ⊠ var 0 ⊞ num 0) ∷ [])
+          refl (product_low y p (2 ^ 60), (whole_nonneg p, near.low, (w_nonneg, near'.low, tt))));
+      high = (product_near y p share own w v nonneg small near (widened 0 16 p v (omega arith) (omega arith) near') most).high;
+    }
+
+-- A step of a chain: a coefficient c and what is left of the rest.
+pub sum_near : (a r : ℕ) (c x : ℚ) → IsNear 0 1 a c → IsNear 0 14 r x → IsNear 0 16 (a + r) (c +ℚ x)
+sum_near a r c x near near' =
+    let ρ = one ∷ c ∷ x ∷ whole a ∷ whole r ∷ [] in
+    let sum : whole (a + r) ≡ whole a +ℚ whole r = int-add (pos a) (pos r) in
+    record {
+      low = subst (λ t. t ≤ℚ (c +ℚ x) *ℚ one +ℚ whole 0) (sym sum)
+          (certified ℚ_ordered ρ (var 3 ⊞ var 4) ((var 1 ⊞ var 2) ⊠ var 0 ⊞ num 0)
+          (le (var 3) (var 1 ⊠ var 0 ⊞ num 0) ∷ le (var 4) (var 2 ⊠ var 0 ⊞ num 0) ∷ []) refl (near.low, (near'.low, tt)));
+      high = subst (λ t. (c +ℚ x) *ℚ one ≤ℚ t +ℚ whole 16) (sym sum)
+          (certified ℚ_ordered ρ ((var 1 ⊞ var 2) ⊠ var 0) (var 3 ⊞ var 4 ⊞ num 16)
+          (le (var 1 ⊠ var 0) (var 3 ⊞ num 1) ∷ le (var 2 ⊠ var 0) (var 4 ⊞ num 14) ∷ le (num 15) (num 16) ∷ []) refl
+          (near.high, (near'.high, (whole_le 15 16 (omega arith), tt))));
+    }
+
+-- The one chain less the other, of which s + r stands for x and r for y.
+pub difference_near : (s r : ℕ) (x y : ℚ) → IsNear 0 16 (s + r) x → IsNear 0 16 r y → IsNear 16 16 s (x -ℚ y)
+difference_near s r x y near near' =
+    let ρ = one ∷ x ∷ y ∷ whole s ∷ whole r ∷ [] in
+    let sum : whole (s + r) ≡ whole s +ℚ whole r = int-add (pos s) (pos r) in
+    record {
+      low = certified ℚ_ordered ρ (var 3) ((var 1 ⊟ var 2) ⊠ var 0 ⊞ num 16)
+          (le (var 3 ⊞ var 4) (var 1 ⊠ var 0 ⊞ num 0) ∷ le (var 2 ⊠ var 0) (var 4 ⊞ num 16) ∷ []) refl
+          (subst (λ t. t ≤ℚ x *ℚ one +ℚ whole 0) sum near.low, (near'.high, tt));
+      high = certified ℚ_ordered ρ ((var 1 ⊟ var 2) ⊠ var 0) (var 3 ⊞ num 16)
+          (le (var 1 ⊠ var 0) (var 3 ⊞ var 4 ⊞ num 16) ∷ le (var 4) (var 2 ⊠ var 0 ⊞ num 0) ∷ []) refl
+          (subst (λ t. x *ℚ one ≤ℚ t +ℚ whole 16) sum near.high, (near'.low, tt));
     }
 
 -- ---- what is cut off, and the shift to a scale

@@ -1,8 +1,8 @@
 -- The sine series by Horner's scheme over a quarter of the square: z·(c0 − w·(c1 − w·(c2 − ..))) with 4w = z².
 use Rattle.std.proofs.Common.{◌≡◌, refl, sym, ap, ap₂, ◌∙◌, ℕ, zero, suc, ◌+◌, ◌-◌, ◌*◌, ◌<◌, pos, arith}
-use Rattle.ring_solver.specs.Expression.{num, ◌⊟◌, ◌⊠◌}
+use Rattle.ring_solver.specs.Expression.{num, ◌⊞◌, ◌⊟◌, ◌⊠◌}
 use Rattle.ring_solver.proofs.Solver.{ring₁, ring₂, ring₄, ring₅}
-use Rattle.rat_core.specs.Fraction.{ℚ, ◌÷◌, whole, ◌-ℚ◌, ◌*ℚ◌}
+use Rattle.rat_core.specs.Fraction.{ℚ, ◌÷◌, whole, ◌+ℚ◌, ◌-ℚ◌, ◌*ℚ◌}
 use Rattle.rat_core.proofs.Laws.{ℚ_ring, over-product}
 use Rattle.trig_meaning.specs.PartialSums.{power, factorial, sine_sum}
 use Rattle.trig_meaning.proofs.Alternating.{alternating}
@@ -66,10 +66,38 @@ sine_sum_horner n z w quarter = sine_sum_alternating n z ∙ alternating_horner 
         let plain : i ≡ 0 + i = omega arith in
         sine_term_is z w quarter i ∙ ap (λ k. z *ℚ power w i *ℚ coefficient k) plain
 
--- one coefficient more, from the inside
-pub horner_next : (w : ℚ) (j : ℕ) → j < 11 → coefficient (10 - j) -ℚ w *ℚ horner w (11 - j) j ≡ horner w (11 - (j + 1)) (j + 1)
-horner_next w j h =
-    let before : 11 - j ≡ suc (10 - j) = omega arith in
-    let after : 11 - (j + 1) ≡ 10 - j = omega arith in
+-- ---- two chains
+
+-- coefficient j + u·(coefficient (j + 2) + u·(..)), with n + 1 coefficients
+abbrev pub chain : ℚ → ℕ → ℕ → ℚ
+chain u j zero = coefficient j
+chain u j (suc n) = coefficient j +ℚ u *ℚ chain u (suc (suc j)) n
+
+-- the scheme over w is two chains over the square of w
+horner_chains : (w : ℚ) (j n : ℕ) → horner w j (suc (2 * n)) ≡ chain (w *ℚ w) j n -ℚ w *ℚ chain (w *ℚ w) (suc j) n
+horner_chains w j zero = refl
+horner_chains w j (suc n) =
+    let longer : 2 * suc n ≡ suc (suc (2 * n)) = omega arith in
+    let u = w *ℚ w in
+    ap (λ m. horner w j (suc m)) longer
+    ∙ ap (λ t. coefficient j -ℚ w *ℚ (coefficient (suc j) -ℚ w *ℚ t)) (horner_chains w (suc (suc j)) n)
+    ∙ ring₅ ℚ_ring (λ w c d e o. c ⊟ w ⊠ (d ⊟ w ⊠ (e ⊟ w ⊠ o))) (λ w c d e o. (c ⊞ w ⊠ w ⊠ e) ⊟ w ⊠ (d ⊞ w ⊠ w ⊠ o)) refl
+    w (coefficient j) (coefficient (suc j)) (chain u (suc (suc j)) n) (chain u (suc (suc (suc j))) n)
+
+pub sine_sum_chains : (z w : ℚ) → whole 4 *ℚ w ≡ z *ℚ z → sine_sum 11 z ≡ z *ℚ (chain (w *ℚ w) 0 5 -ℚ w *ℚ chain (w *ℚ w) 1 5)
+sine_sum_chains z w quarter = sine_sum_horner 11 z w quarter ∙ ap (λ t. z *ℚ t) (horner_chains w 0 5)
+
+-- one coefficient more in each, from the inside
+pub even_next : (u : ℚ) (j : ℕ) → j < 5 → coefficient (8 - 2 * j) +ℚ u *ℚ chain u (10 - 2 * j) j ≡ chain u (10 - 2 * (j + 1)) (j + 1)
+even_next u j h =
+    let before : 10 - 2 * j ≡ suc (suc (8 - 2 * j)) = omega arith in
+    let after : 10 - 2 * (j + 1) ≡ 8 - 2 * j = omega arith in
+    let later : j + 1 ≡ suc j = omega arith in
+    rw (after, later, before) refl
+
+pub odd_next : (u : ℚ) (j : ℕ) → j < 5 → coefficient (9 - 2 * j) +ℚ u *ℚ chain u (11 - 2 * j) j ≡ chain u (11 - 2 * (j + 1)) (j + 1)
+odd_next u j h =
+    let before : 11 - 2 * j ≡ suc (suc (9 - 2 * j)) = omega arith in
+    let after : 11 - 2 * (j + 1) ≡ 9 - 2 * j = omega arith in
     let later : j + 1 ≡ suc j = omega arith in
     rw (after, later, before) refl

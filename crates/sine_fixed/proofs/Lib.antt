@@ -6,5 +6,6 @@ pub mod QuarterSquare
 pub mod Sizes
 pub mod Negative
 pub mod Sines
+pub mod Chains
 pub mod Turning
 pub mod Weighing

@@ -21,6 +21,11 @@ product_fits a b bits h k least =
 pub square_small : (a : ℕ) → a ≤ 2 ^ 61 → a * a / 2 ^ 62 ≤ 2 ^ 60
 square_small a h = div-le_of_le-mul (2 ^ 62) (omega (arith, product_most a a h h))
 
+pub product_size : (a b : ℕ) → a ≤ 2 ^ 61 → b ≤ 2 ^ 60 → a * b / 2 ^ 60 ≤ 2 ^ 61
+product_size a b h k =
+    let product : a * b ≤ 2 ^ 61 * 2 ^ 60 = mul-le-mul {n₁ = a} {m₁ = b} {n₂ = 2 ^ 61} {m₂ = 2 ^ 60} h k in
+    div-le_of_le-mul (2 ^ 60) (omega (arith, product))
+
 -- ---- the shift to a scale
 
 pub shift_room : (bits : ℕ) → bits ≤ 60 → 2 ^ bits * 2 ^ (60 - bits) ≡ 2 ^ 60

@@ -91,20 +91,24 @@ fn quotient(n: u128, d: u128) -> u128
     }
 }
 
-/// The series of the sine at `angle`, cut off after the term `LAST`, in units of 2^-60. By Horner's scheme it is
-/// `z·(c0 − w·(c1 − w·(c2 − ..)))`, where `w` is `z²/4` and `cj` is `4^j / (2j + 1)!`. Each number is cut to a whole one.
-/// Since `w` is at most 3/4, the errors of the inner numbers add up to at most 16 units.
+/// The series of the sine at `angle`, cut off after the term `LAST`, in units of 2^-60. With `w` for `z²/4` and `cj` for
+/// `4^j / (2j + 1)!` it is `z·((c0 + w²·(c2 + ..)) − w·(c1 + w²·(c3 + ..)))`: two chains by Horner's scheme, which do not wait
+/// for one another. Each number is cut to a whole one. Since `w²` is at most 7/16, a number of a chain is at most 16 units
+/// too small.
 fn series(angle: u64) -> u64
     requires { angle ≤ 2 ^ 61 }
     ensures near { (z : ℚ) → whole 0 ≤ℚ z → z ≤ℚ pos 8 ÷ 5 → IsNear 0 2 angle z → IsNear 26 29 result (sine_sum 11 z) }
     ensures size { result ≤ 2 ^ 61 }
 {
     let quarter_square = product(angle, angle, 62);
-    let mut nested = COEFFICIENTS[LAST];
-    for j in 0..LAST {
-        nested = COEFFICIENTS[LAST - 1 - j] - product(quarter_square, nested, 60);
+    let square = product(quarter_square, quarter_square, 60);
+    let mut even = COEFFICIENTS[LAST - 1];
+    let mut odd = COEFFICIENTS[LAST];
+    for j in 0..LAST / 2 {
+        even = COEFFICIENTS[LAST - 3 - 2 * j] + product(square, even, 60);
+        odd = COEFFICIENTS[LAST - 2 - 2 * j] + product(square, odd, 60);
     }
-    product(angle, nested, 60)
+    product(angle, even - product(quarter_square, odd, 60), 60)
 }
 
 /// `a·b / 2^bits`, rounded down.

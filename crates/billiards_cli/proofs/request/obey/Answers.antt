@@ -29,3 +29,8 @@ pub returns-in-Unfold-clause-serves : goal.returns-in-Unfold-clause-serves
 returns-in-Unfold-clause-serves g c =
     let s = g.S.Source in
     rw c.in-Unfold.is (c.unfold.ensures.serves (s.left c.args.src.now) (s.faults c.args.src.now))
+
+pub returns-in-Points-clause-serves : goal.returns-in-Points-clause-serves
+returns-in-Points-clause-serves g c =
+    let s = g.S.Source in
+    rw c.in-Points.is (c.points.ensures.serves (s.left c.args.src.now) (s.faults c.args.src.now))
