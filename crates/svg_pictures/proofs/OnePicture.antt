@@ -58,7 +58,8 @@ end_is_one w k point t s s' p q =
     let same : first_corner p.0 ≡ first_corner q.0 = mirrors_apart (take (k - 1) w) (first_corner p.0) (first_corner q.0) (p.2 ∙ sym q.2) in
     p.3 ∙ ap (point_at t) (corners_apart p.0 q.0 p.1 q.1 same) ∙ sym q.3
 
-ends_are_one : (w : List ℕ) (end : ℕ → FormalPoint) (ts : List DrawnTriangle) (points points' : List PicturePoint) → AreEnds w end ts points → AreEnds w end ts points'
+ends_are_one : (w : List ℕ) (end : ℕ → FormalPoint) (ts : List DrawnTriangle) (points points' : List PicturePoint) → AreEnds w end ts points
+    → AreEnds w end ts points'
     → points ≡ points'
 ends_are_one w end ts points points' p q =
     same_lists points points' (p.count ∙ sym q.count)

@@ -64,7 +64,7 @@ small_number z v w light off small =
     both : (z : ℤ) → z ≤ℤ pos (2 ^ 70) → neg_ℤ z ≤ℤ pos (2 ^ 70) → unsigned_abs z ≤ 2 ^ 70
     both z h k = omega (arith, ints, h, k)
 
-pub small_spot : (at : TriangleAngles) (p : FormalPoint) (s : Spot) → weight p ≤ 255 → IsSpotOf at p s → IsSmallSpot (2 ^ 70) s
+small_spot : (at : TriangleAngles) (p : FormalPoint) (s : Spot) → weight p ≤ 255 → IsSpotOf at p s → IsSmallSpot (2 ^ 70) s
 small_spot at p s light is = record {
   x = sized s.x (λ n. first_coordinate n p (value at.0) (value at.1)) (λ n late. first_size n late (value at.0) (value at.1) p) is.first;
   y = sized s.y (λ n. second_coordinate n p (value at.0) (value at.1)) (λ n late. second_size n late (value at.0) (value at.1) p) is.second;
@@ -76,6 +76,16 @@ small_spot at p s light is = record {
         onward_both {P = λ n. abs (in_units z -ℚ v n) ≤ℚ whole (weight p) *ℚ near} {Q = λ n. 20 ≤ n}
         (λ n off late. small_number z (v n) (weight p) light off (small n late)) close (20, λ n late. late) in
         (somewhere far).1
+
+-- the numbers as the machine keeps them
+pub small_kept : (at : TriangleAngles) (p : FormalPoint) (s : Spot) → weight p ≤ 255 → IsSpotOf at p s
+    → IsSmallSpot (2 ^ 70) (record { x = kept s.x; y = kept s.y })
+small_kept at p s light is =
+    let small = small_spot at p s light is in
+    record {
+      x = subst (λ (z : ℤ). unsigned_abs z ≤ 2 ^ 70) (sym (kept_is s.x small.x)) small.x;
+      y = subst (λ (z : ℤ). unsigned_abs z ≤ 2 ^ 70) (sym (kept_is s.y small.y)) small.y;
+    }
 
 -- ---- the numbers of the picture
 

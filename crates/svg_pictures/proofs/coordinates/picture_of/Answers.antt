@@ -1,7 +1,6 @@
-use Rattle.std.proofs.Common.{◌^◌, ◌≤◌, ℤ, subst, sym, unsigned_abs, arith}
+use Rattle.std.proofs.Common.{arith}
 use Rattle.exp_sums.proofs.Within.{IsWithin-weaker}
-use Rattle.svg_pictures.proofs.PicturePoints.{small_spot, picture_computed}
-use Rattle.svg_pictures.proofs.Rounded.{kept_is}
+use Rattle.svg_pictures.proofs.PicturePoints.{small_kept, picture_computed}
 use Rattle.svg_pictures.proofs.coordinates.picture_of.Goals as goal
 
 pub spot-spot-requires : goal.spot-spot-requires
@@ -9,13 +8,13 @@ spot-spot-requires c = IsWithin-weaker 65 1000 c.args.z.now (omega arith) c.requ
 
 pub rounded-requires : goal.rounded-requires
 rounded-requires c =
-    let s = small_spot c.args.plane.now c.args.z.now c.spot-spot.result c.requires.light c.spot-spot.ensures.spot in
-    subst (λ (z : ℤ). unsigned_abs z ≤ 2 ^ 70) (sym (kept_is c.spot-spot.result.x s.x)) s.x
+    let s = small_kept c.args.plane.now c.args.z.now c.spot-spot.result c.requires.light c.spot-spot.ensures.spot in
+    omega (arith, s.x, s.y)
 
 pub rounded-requires-2 : goal.rounded-requires-2
 rounded-requires-2 c =
-    let s = small_spot c.args.plane.now c.args.z.now c.spot-spot.result c.requires.light c.spot-spot.ensures.spot in
-    subst (λ (z : ℤ). unsigned_abs z ≤ 2 ^ 70) (sym (kept_is c.spot-spot.result.y s.y)) s.y
+    let s = small_kept c.args.plane.now c.args.z.now c.spot-spot.result c.requires.light c.spot-spot.ensures.spot in
+    omega (arith, s.x, s.y)
 
 pub returns : goal.returns
 returns c =
