@@ -76,7 +76,8 @@ first_weight ts i e below = subst (λ us. terms_weight (take i ts) + unsigned_ab
     (omega (arith, terms_weight-append (take i ts) (get_or ts i e ∷ []), terms_weight-cons (get_or ts i e) []))
 
 -- one more term
-module _ (at : TriangleAngles) (ts : List Term) (i : ℕ) (e : Term) (below : i < length ts) (light : terms_weight ts ≤ 2 ^ 31) (s : Spot) (so_far : IsSumOf at ts i s) where
+module _ (at : TriangleAngles) (ts : List Term) (i : ℕ) (e : Term) (below : i < length ts) (light : terms_weight ts ≤ 2 ^ 31) (s : Spot)
+    (so_far : IsSumOf at ts i s) where
   pub small_so_far : IsSmallSpot (2 ^ 93) s
   small_so_far =
       let all : terms_weight (take i ts) ≤ terms_weight ts = sum_by-take-le (λ (t : Term). unsigned_abs t.c) ts i in
@@ -84,13 +85,17 @@ module _ (at : TriangleAngles) (ts : List Term) (i : ℕ) (e : Term) (below : i 
 
   -- the coefficient as the machine reads it
   pub factor_read : FitsSigned w64 (get_or ts i e).c
-  factor_read = let part = sum_by_more_le (λ (t : Term). unsigned_abs t.c) ts i e below in fits_signed_from_abs w64 (get_or ts i e).c (omega (arith, part, light))
+  factor_read =
+      let part = sum_by_more_le (λ (t : Term). unsigned_abs t.c) ts i e below in
+      fits_signed_from_abs w64 (get_or ts i e).c (omega (arith, part, light))
 
-  pub next_sum : (unit next : Spot) → IsUnitSpot at (get_or ts i e).dir unit → IsSmallSpot (2 ^ 62) unit → next.x ≡ s.x +ℤ (get_or ts i e).c *ℤ unit.x
-      → next.y ≡ s.y +ℤ (get_or ts i e).c *ℤ unit.y → IsSumOf at ts (i + 1) next
+  pub next_sum : (unit next : Spot) → IsUnitSpot at (get_or ts i e).dir unit → IsSmallSpot (2 ^ 62) unit
+      → next.x ≡ s.x +ℤ (get_or ts i e).c *ℤ unit.x → next.y ≡ s.y +ℤ (get_or ts i e).c *ℤ unit.y → IsSumOf at ts (i + 1) next
   next_sum unit next is small x_is y_is = record {
-    first = subst (λ z. IsSumNear 60 (first_of at) z (take (i + 1) ts)) (sym x_is) (one_more 60 (first_of at) ts i e s.x unit.x below so_far.first is.first);
-    second = subst (λ z. IsSumNear 60 (second_of at) z (take (i + 1) ts)) (sym y_is) (one_more 60 (second_of at) ts i e s.y unit.y below so_far.second is.second);
+    first = subst (λ z. IsSumNear 60 (first_of at) z (take (i + 1) ts)) (sym x_is)
+        (one_more 60 (first_of at) ts i e s.x unit.x below so_far.first is.first);
+    second = subst (λ z. IsSumNear 60 (second_of at) z (take (i + 1) ts)) (sym y_is)
+        (one_more 60 (second_of at) ts i e s.y unit.y below so_far.second is.second);
     first_small = larger s.x unit.x next.x so_far.first_small small.x x_is;
     second_small = larger s.y unit.y next.y so_far.second_small small.y y_is;
   }
