@@ -14,4 +14,5 @@ pub mod CoverAnswers
 pub mod CoverSizes
 pub mod DemoAnswers
 pub mod SearchAnswers
+pub mod FamilyAnswers
 pub mod OneAnswer

@@ -6,3 +6,4 @@ pub mod Cover
 pub mod Job
 pub mod Demo
 pub mod Search
+pub mod Family

@@ -14,8 +14,9 @@ use Rattle.billiards_cli.specs.Commands.Cover.{cover_request, cover_reads_to, Is
 use Rattle.billiards_cli.specs.Commands.Job.{job_request, IsJobAnswer, IsJobDue}
 use Rattle.billiards_cli.specs.Commands.Demo.{demo_request, IsDemoAnswer, IsDemoDue}
 use Rattle.billiards_cli.specs.Commands.Search.{search_request, IsSearchAnswer, IsSearchDue}
+use Rattle.billiards_cli.specs.Commands.Family.{family_request, IsFamilyAnswer, IsFamilyDue, IsMembersAnswer, IsMembersDue}
 use Rattle.billiards_cli.specs.declared.request.Request.{Request}
-use Rattle.billiards_cli.specs.declared.request.Request.TheVariants.{Word, Check, At, Cover, Job, Demo, Search}
+use Rattle.billiards_cli.specs.declared.request.Request.TheVariants.{Word, Check, At, Cover, Job, Demo, Search, Family, FamilyAt}
 
 -- the commands by their names: what the arguments after a name ask of it, if anything
 abbrev pub request_named : List ℕ → List (List ℕ) → Option Request
@@ -27,7 +28,8 @@ request_named name arguments =
     (if bytes_eq name (codes "job") then job_request arguments else
     (if bytes_eq name (codes "demo") then demo_request arguments else
     (if bytes_eq name (codes "search") then search_request arguments else
-    None))))))
+    (if bytes_eq name (codes "family") then family_request arguments else
+    None)))))))
 
 abbrev pub request_of : List (List ℕ) → Option Request
 request_of [] = None
@@ -76,4 +78,16 @@ command_of (Search triangle bound) = record {
   reads_to = λ status. ToALine;
   IsRight = λ input. IsSearchAnswer triangle bound;
   IsDue = λ input. IsSearchDue;
+}
+command_of (Family texts) = record {
+  reads = Nothing;
+  reads_to = λ status. ToALine;
+  IsRight = λ input. IsFamilyAnswer texts;
+  IsDue = λ input. IsFamilyDue texts;
+}
+command_of (FamilyAt texts triangle) = record {
+  reads = Nothing;
+  reads_to = λ status. ToALine;
+  IsRight = λ input. IsMembersAnswer texts triangle;
+  IsDue = λ input. IsMembersDue texts;
 }

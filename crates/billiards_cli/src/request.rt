@@ -9,10 +9,12 @@ use crate::commands::at::{self, at};
 use crate::commands::check::{self, check};
 use crate::commands::cover::{self, cover};
 use crate::commands::demo::{self, demo};
+use crate::commands::family::at_triangle::family_at;
+use crate::commands::family::{self, family};
 use crate::commands::job::{self, job};
 use crate::commands::search::{self, search};
 use crate::commands::word::{self, word};
-use crate::{Args, JobNumber, SearchBound, Status, Triangle, WordArgument};
+use crate::{Args, FamilyArgument, JobNumber, SearchBound, Status, Triangle, WordArgument};
 use mcb_ends::{Sink, Source};
 use std::alloc::Global;
 
@@ -39,6 +41,13 @@ pub(crate) enum Request<'a> {
         triangle: Triangle,
         bound: SearchBound,
     },
+    /// The shifts of all members of a family.
+    Family(FamilyArgument<'a>),
+    /// The members of a family that are open at a triangle.
+    FamilyAt {
+        family: FamilyArgument<'a>,
+        triangle: Triangle,
+    },
 }
 
 /// The request of a command line: its first argument is the name of a command.
@@ -60,6 +69,8 @@ pub(crate) fn parse(arguments: &Args) -> Option<Request<'_>>
         demo::request(&arguments)
     } else if name == b"search".as_slice() {
         search::request(&arguments)
+    } else if name == b"family".as_slice() {
+        family::request(&arguments)
     } else {
         None
     }
@@ -88,5 +99,10 @@ pub(crate) fn obey<S: Source, K: Sink>(
         Request::Job(number) => job(number, out),
         Request::Demo(number) => demo(alloc, number, out),
         Request::Search { triangle, bound } => search(alloc, triangle, bound, out),
+        Request::Family(argument) => family(alloc, argument, out),
+        Request::FamilyAt {
+            family: argument,
+            triangle,
+        } => family_at(alloc, argument, triangle, out),
     }
 }

@@ -5,4 +5,5 @@ pub(crate) const USAGE: &str = "usage: mcb word | check | cover
        mcb tile WORD H
        mcb unfold WORD P Q D
        mcb job K | demo K
+       mcb family A B C [P Q D]
 ";

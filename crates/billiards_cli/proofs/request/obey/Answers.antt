@@ -19,3 +19,13 @@ pub returns-in-Search-clause-serves : goal.returns-in-Search-clause-serves
 returns-in-Search-clause-serves g c =
     let s = g.S.Source in
     rw c.in-Search.is (c.search.ensures.serves (s.left c.args.src.now) (s.faults c.args.src.now))
+
+pub returns-in-Family-clause-serves : goal.returns-in-Family-clause-serves
+returns-in-Family-clause-serves g c =
+    let s = g.S.Source in
+    rw c.in-Family.is (c.family.ensures.serves (s.left c.args.src.now) (s.faults c.args.src.now))
+
+pub returns-in-FamilyAt-clause-serves : goal.returns-in-FamilyAt-clause-serves
+returns-in-FamilyAt-clause-serves g c =
+    let s = g.S.Source in
+    rw c.in-FamilyAt.is (c.family_at.ensures.serves (s.left c.args.src.now) (s.faults c.args.src.now))
