@@ -19,5 +19,6 @@ pub mod TileAnswers
 pub mod OneTile
 pub mod PointsAnswers
 pub mod CornerRows
+pub mod FamilyAnswers
 pub mod OneAnswer
 pub mod UnfoldAnswers

@@ -9,3 +9,4 @@ pub mod Search
 pub mod Tile
 pub mod Unfold
 pub mod Points
+pub mod Family

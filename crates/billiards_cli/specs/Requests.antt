@@ -17,8 +17,9 @@ use Rattle.billiards_cli.specs.Commands.Search.{search_request, IsSearchAnswer, 
 use Rattle.billiards_cli.specs.Commands.Tile.{tile_request, IsTileAnswer, IsTileDue}
 use Rattle.billiards_cli.specs.Commands.Unfold.{unfold_request, IsUnfoldAnswer, IsUnfoldDue}
 use Rattle.billiards_cli.specs.Commands.Points.{points_request, IsPointsAnswer, IsPointsDue}
+use Rattle.billiards_cli.specs.Commands.Family.{family_request, IsFamilyAnswer, IsFamilyDue, IsMembersAnswer, IsMembersDue}
 use Rattle.billiards_cli.specs.declared.request.Request.{Request}
-use Rattle.billiards_cli.specs.declared.request.Request.TheVariants.{Word, Check, At, Cover, Job, Demo, Search, Tile, Unfold, Points}
+use Rattle.billiards_cli.specs.declared.request.Request.TheVariants.{Word, Check, At, Cover, Job, Demo, Search, Tile, Unfold, Points, Family, FamilyAt}
 
 -- the commands by their names: what the arguments after a name ask of it, if anything
 abbrev pub request_named : List ℕ → List (List ℕ) → Option Request
@@ -33,7 +34,8 @@ request_named name arguments =
     (if bytes_eq name (codes "tile") then tile_request arguments else
     (if bytes_eq name (codes "unfold") then unfold_request arguments else
     (if bytes_eq name (codes "points") then points_request arguments else
-    None)))))))))
+    (if bytes_eq name (codes "family") then family_request arguments else
+    None))))))))))
 
 abbrev pub request_of : List (List ℕ) → Option Request
 request_of [] = None
@@ -100,4 +102,16 @@ command_of (Points word triangle) = record {
   reads_to = λ status. ToALine;
   IsRight = λ input. IsPointsAnswer word triangle;
   IsDue = λ input. IsPointsDue word;
+}
+command_of (Family texts) = record {
+  reads = Nothing;
+  reads_to = λ status. ToALine;
+  IsRight = λ input. IsFamilyAnswer texts;
+  IsDue = λ input. IsFamilyDue texts;
+}
+command_of (FamilyAt texts triangle) = record {
+  reads = Nothing;
+  reads_to = λ status. ToALine;
+  IsRight = λ input. IsMembersAnswer texts triangle;
+  IsDue = λ input. IsMembersDue texts;
 }

@@ -8,6 +8,7 @@ mod args;
 mod blocks;
 mod commands;
 mod end_line;
+mod family_argument;
 mod job_number;
 pub mod laws;
 mod number;
@@ -25,6 +26,7 @@ mod usage;
 mod word_argument;
 
 pub use args::Args;
+use family_argument::FamilyArgument;
 use job_number::JobNumber;
 use mcb_ends::{StdSink, StdSource};
 pub use program::run;

@@ -9,13 +9,17 @@ use crate::commands::at::{self, at};
 use crate::commands::check::{self, check};
 use crate::commands::cover::{self, cover};
 use crate::commands::demo::{self, demo};
+use crate::commands::family::at_triangle::family_at;
+use crate::commands::family::{self, family};
 use crate::commands::job::{self, job};
 use crate::commands::points::{self, points};
 use crate::commands::search::{self, search};
 use crate::commands::tile::{self, tile};
 use crate::commands::unfold::{self, unfold};
 use crate::commands::word::{self, word};
-use crate::{Args, JobNumber, SearchBound, Status, TileDepth, Triangle, WordArgument};
+use crate::{
+    Args, FamilyArgument, JobNumber, SearchBound, Status, TileDepth, Triangle, WordArgument,
+};
 use mcb_ends::{Sink, Source};
 use std::alloc::Global;
 
@@ -57,6 +61,13 @@ pub(crate) enum Request<'a> {
         word: WordArgument<'a>,
         triangle: Triangle,
     },
+    /// The shifts of all members of a family.
+    Family(FamilyArgument<'a>),
+    /// The members of a family that are open at a triangle.
+    FamilyAt {
+        family: FamilyArgument<'a>,
+        triangle: Triangle,
+    },
 }
 
 /// The request of a command line: its first argument is the name of a command.
@@ -84,6 +95,8 @@ pub(crate) fn parse(arguments: &Args) -> Option<Request<'_>>
         unfold::request(&arguments)
     } else if name == b"points".as_slice() {
         points::request(&arguments)
+    } else if name == b"family".as_slice() {
+        family::request(&arguments)
     } else {
         None
     }
@@ -115,5 +128,10 @@ pub(crate) fn obey<S: Source, K: Sink>(
         Request::Tile { word, depth } => tile(alloc, word, depth, out),
         Request::Unfold { word, triangle } => unfold(alloc, word, triangle, out),
         Request::Points { word, triangle } => points(alloc, word, triangle, out),
+        Request::Family(argument) => family(alloc, argument, out),
+        Request::FamilyAt {
+            family: argument,
+            triangle,
+        } => family_at(alloc, argument, triangle, out),
     }
 }

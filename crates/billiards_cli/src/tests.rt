@@ -3,6 +3,7 @@ mod at;
 mod check;
 mod cover;
 mod demo;
+mod family;
 mod fixtures;
 mod job;
 mod points;

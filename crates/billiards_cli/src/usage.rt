@@ -6,4 +6,5 @@ pub(crate) const USAGE: &str = "usage: mcb word | check | cover
        mcb unfold WORD P Q D
        mcb job K | demo K
        mcb points WORD P Q D
+       mcb family A B C [P Q D]
 ";

@@ -14,7 +14,7 @@ use Rattle.word_family.specs.Reading.{ReadsOneWay}
 use Rattle.word_family.specs.declared.fault.FamilyFault.TheVariants.{Part, Odd, Neighbours}
 
 -- texts spell one triple of parts
-same_parts : (a b c : List ℕ) (f g : Parts) → SpellParts a b c f → SpellParts a b c g → f ≡ g
+pub same_parts : (a b c : List ℕ) (f g : Parts) → SpellParts a b c f → SpellParts a b c g → f ≡ g
 same_parts a b c f g h k =
     let first = digits_of-injective f.first g.first (sym h.first ∙ k.first) in
     let middle = digits_of-injective f.middle g.middle (sym h.middle ∙ k.middle) in

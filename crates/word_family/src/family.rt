@@ -1,5 +1,5 @@
 //! Families of words.
-ghost use Rattle.std.specs.Prelude.{◌≡◌, ◌↔◌, ◌⊎◌, ℕ, ◌*◌, ◌+◌, ◌<◌, ◌≤◌, length, IsTrue, IfOk, IsErrOf, MatchOption};
+ghost use Rattle.std.specs.Prelude.{◌≡◌, ◌↔◌, ◌⊎◌, ℕ, ◌*◌, ◌+◌, ◌<◌, ◌≤◌, length, IsTrue, IfOk, IfSome, IsErrOf, IsNone};
 ghost use Rattle.word_family.specs.Family.{Parts, member, AreEven, IsFamily, IsStableFamily, AreShiftsOf};
 ghost use Rattle.word_family.specs.Reading.{Reads};
 ghost use Rattle.word_family.specs.declared.fault.ShiftsFault.TheVariants.{Unstable};
@@ -70,7 +70,8 @@ impl Family {
     /// The member a bⁿ c, where it has from 6 to `MAX_LETTERS` letters. It takes no memory.
     pub fn word(&self, alloc: Global, n: u32) -> Option<Word>
         requires { (1 ≤ n) × (n ≤ 64) }
-        ensures { MatchOption result ((length (member self.now n) < 6) ⊎ (64 < length (member self.now n))) (λ word. word ≡ member self.now n) }
+        ensures word { IfSome result (λ word. word ≡ member self.now n) }
+        ensures none { IsNone result ↔ (length (member self.now n) < 6) ⊎ (64 < length (member self.now n)) }
     {
         let count = self.first.letters().len()
             + n as usize * self.middle.letters().len()

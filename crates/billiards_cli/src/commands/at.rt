@@ -55,8 +55,8 @@ pub(crate) fn at<K: Sink>(
     }
 }
 
-// Whether the corridor of a stable word was shown to be open at a triangle.
-fn is_open(alloc: Global, word: &Word, triangle: &Triangle) -> Result<bool, OutOfMemory>
+/// Whether the corridor of a stable word was shown to be open at a triangle.
+pub(crate) fn is_open(alloc: Global, word: &Word, triangle: &Triangle) -> Result<bool, OutOfMemory>
     requires { IsStable word.now }
     ensures open { result ≡ Ok true → AtTriangle triangle.now (HasCorridor word.now) }
     ensures not_shown { result ≡ Ok false → ¬ (AtTriangle triangle.now (λ x y. IsClearAtPoint word.now x y sure.gradient)) }

@@ -12,7 +12,7 @@ ghost use Rattle.billiards_cli.specs.Commands.Word.{WritesShift, word_input, wor
 ghost use Rattle.billiards_cli.specs.Requests.{command_of};
 ghost use Rattle.billiards_cli.specs.Services.{Serves};
 
-mod shift;
+pub(crate) mod shift;
 mod word_line;
 
 use crate::Status;

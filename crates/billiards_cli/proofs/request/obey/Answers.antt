@@ -34,3 +34,13 @@ pub returns-in-Points-clause-serves : goal.returns-in-Points-clause-serves
 returns-in-Points-clause-serves g c =
     let s = g.S.Source in
     rw c.in-Points.is (c.points.ensures.serves (s.left c.args.src.now) (s.faults c.args.src.now))
+
+pub returns-in-Family-clause-serves : goal.returns-in-Family-clause-serves
+returns-in-Family-clause-serves g c =
+    let s = g.S.Source in
+    rw c.in-Family.is (c.family.ensures.serves (s.left c.args.src.now) (s.faults c.args.src.now))
+
+pub returns-in-FamilyAt-clause-serves : goal.returns-in-FamilyAt-clause-serves
+returns-in-FamilyAt-clause-serves g c =
+    let s = g.S.Source in
+    rw c.in-FamilyAt.is (c.family_at.ensures.serves (s.left c.args.src.now) (s.faults c.args.src.now))

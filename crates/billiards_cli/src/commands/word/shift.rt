@@ -19,7 +19,8 @@ pub(crate) fn write_shift<K: Sink>(shift: &ExpSum, out: &mut K) -> Result<(), Fa
     write_end(shift.terms().len(), out)
 }
 
-fn write_terms<K: Sink>(terms: &[Term], out: &mut K) -> Result<(), Failed>
+/// Writes terms, one a line.
+pub(crate) fn write_terms<K: Sink>(terms: &[Term], out: &mut K) -> Result<(), Failed>
     ensures text { Writes (K.written out.old) (K.written out.new) result (terms_text terms.now) }
     ensures room { K.room out.new ≡ K.room out.old }
     ensures cause { HasCause (K.faults out.old) (K.faults out.new) result }
