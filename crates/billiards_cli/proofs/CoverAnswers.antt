@@ -1,14 +1,16 @@
 -- The right answers of `cover`.
-use Rattle.std.proofs.Common.{ℕ, List, [], ◌∷◌, ◌++◌, Option, codes, refl, subst, inl, inr}
+use Rattle.std.proofs.Common.{ℕ, List, [], ◌∷◌, ◌++◌, length, Option, codes, refl, subst, inl, inr, append_assoc}
+use Rattle.mcb_ends.specs.Lines.{newline}
 use Rattle.line_grammar.specs.Input.{MayBe}
 use Rattle.line_grammar.specs.Offence.{IsFirstOffence}
-use Rattle.line_grammar.specs.Text.{text_of, named_line, BeginsWith}
+use Rattle.line_grammar.specs.Text.{text_of, named_line}
 use Rattle.line_grammar.specs.declared.reason.Reason.{Reason}
-use Rattle.covering_file.specs.Header.{Heading, IsHeading, first_line, outline_lines, words_lines, job_text}
+use Rattle.covering_file.specs.Header.{Heading, IsHeading, first_line, region_lines, words_lines, job_text}
+use Rattle.covering_file.specs.Faults.{BeginsFile}
 use Rattle.covering_file.specs.HeaderPart.{job_part}
 use Rattle.covering_file.specs.declared.file_kind.FileKind.TheVariants.{Job}
 use Rattle.covering_file.proofs.HeaderLaws.{job_never_offends}
-use Rattle.covering_file.proofs.HeadLines.{first_line-short}
+use Rattle.covering_file.proofs.HeadLines.{first_line-short, some_version}
 use Rattle.covering_file.specs.declared.TheConstants.{MAX_NODES}
 use Rattle.coverer.specs.Begun.{IsCover}
 use Rattle.coverer.specs.declared.answer.Covered.{Covered}
@@ -55,12 +57,22 @@ cover_answer left left' input status text no_fault may_be right read =
     record { input = input; may_be = may_be; right = right; due = cover_answer_is_due input status text no_fault right; read = read }
 
 -- the text of a job begins with its first line
-pub job_begins : (h : Heading) → BeginsWith (job_text h) (first_line Job)
-job_begins h =
-    let others = (outline_lines h.outline ++ words_lines h.words ++ named_line (codes "depth") h.depth ∷ []) ++ codes "end" ∷ [] in
-    (text_of others, (first_line-short Job, refl))
+pub job_begins : (h : Heading) → IsHeading h → BeginsFile Job (job_text h)
+job_begins h is =
+    let others = (region_lines h.version h.region ++ words_lines h.words ++ named_line (codes "depth") h.depth ∷ []) ++ codes "end" ∷ [] in
+    let version = some_version h.version (length h.region) is.version in (
+      h.version,
+      version,
+      (
+        text_of others,
+        (
+          first_line-short Job h.version version,
+          append_assoc (first_line Job h.version) (newline ∷ []) (text_of others),
+        ),
+      ),
+    )
 
--- a covering of the polygon of a job
+-- a covering of the region of a job
 pub covers_job : (h : Heading) (end : Covered) (text : List ℕ) → IsHeading h → IsCover MAX_NODES h end text → CoversJob (job_text h) end text
 covers_job h end text is cover = record { heading = h; job = record { is_heading = is; text = refl }; cover = cover }
 

@@ -126,7 +126,7 @@ header_is_short k is =
     let near : near_side k < 2 ^ 32 = omega (arith, is) in
     let far : far_side k < 2 ^ 32 = omega (arith, is) in
     All-from_recursion IsShort (header_lines Cover (job_heading k)) (
-      lit≤ tt,
+      named_is_short (codes "mcbcover") 1 (lit≤ tt) (lit< tt),
       (
         named_is_short (codes "grid") 768 (lit≤ tt) (lit< tt),
         (

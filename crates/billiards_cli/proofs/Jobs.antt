@@ -1,5 +1,5 @@
 -- Generated jobs are jobs.
-use Rattle.std.proofs.Common.{◌≡◌, ◌≢◌, ℕ, zero, suc, ◌+◌, ◌*◌, ◌<◌, List, [], ◌∷◌, All, pos, ◌-ℤ◌, refl, sym, subst, ap, ap₂, ◌∙◌, lit<, lit≤}
+use Rattle.std.proofs.Common.{◌≡◌, ◌≢◌, ℕ, zero, suc, ◌+◌, ◌*◌, ◌<◌, List, [], ◌∷◌, All, pos, ◌-ℤ◌, refl, sym, subst, ap, ap₂, ◌∙◌, lit<, lit≤, inl}
 use Rattle.std.proofs.Common.{arith, mul-pos, get_or, ◌%◌}
 use Rattle.std.proofs.lemmas.Int.{ints}
 use Rattle.std.proofs.lemmas.List.Elements.{All-cons, All-nil}
@@ -9,7 +9,10 @@ use Rattle.rat_core.specs.Fraction.{ℚ, ◌÷◌, whole, ◌-ℚ◌, ◌*ℚ◌
 use Rattle.rat_core.proofs.Laws.{ℚ_ring, over-product}
 use Rattle.rat_core.proofs.Order.{over_positive}
 use Rattle.rat_core.proofs.Quotients.{over-sub_same}
-use Rattle.rational_polygon.specs.Outline.{IsInside, IsNumber, IsConvexAt, IsPolygon}
+use Rattle.rational_polygon.specs.Outline.{IsInside, IsNumber, IsConvexAt, IsPolygon, corner}
+use Rattle.rational_polygon.specs.Square.{unit_square}
+use Rattle.rational_polygon.specs.Region.{IsRegion}
+use Rattle.rational_polygon.proofs.Regions.{one_is_region}
 use Rattle.edge_words.specs.Letters.{IsLetter}
 use Rattle.edge_words.proofs.Balance.{stable_from_letters}
 use Rattle.edge_words.proofs.Digits.{differ_from_indices}
@@ -85,6 +88,9 @@ is_polygon k is = record {
   convex = λ i j edge number. is_convex k i j is edge number;
 }
 
+pub is_region : (k : ℕ) → IsJobNumber k → IsRegion (job_outline k ∷ [])
+is_region k is = (one_is_region (job_outline k) (corner (job_outline k) 1) unit_square (is_polygon k is)).0
+
 -- ---- the word
 
 differ : (i : ℕ) → i < 6 → get_or job_word i 0 ≢ get_or job_word ((i + 1) % 6) 0
@@ -126,7 +132,8 @@ is_stable_word = record {
 
 pub generated_is_job : (k : ℕ) → IsJobNumber k → IsHeading (job_heading k)
 generated_is_job k is = record {
-  polygon = is_polygon k is;
+  version = inl (refl, refl);
+  region = is_region k is;
   word_count = (lit≤ tt, lit≤ tt);
   stable = All-cons IsStableWord job_word [] is_stable_word (All-nil IsStableWord);
   depth = lit≤ tt;

@@ -1,7 +1,7 @@
 -- The headline, and the way to it.
 --
 --     Where `mcb check` ends with status 0, the bytes read are one whole covering file, and every rational point of its
---     polygon that is a triangle has a listed stable word whose unfolding by reflections ends in a translate of its first
+--     region that is a triangle has a listed stable word whose unfolding by reflections ends in a translate of its first
 --     triangle and has every upper corner strictly to the left of every lower corner along that translation.
 --
 -- Start here. The definitions that the sentence is made of are passed on below, the lowest layer first, each from the file
@@ -35,16 +35,17 @@ pub use Rattle.trig_meaning.specs.Value.{value_at, IsPositiveAt}
 pub use Rattle.defining_functions.specs.Functions.{defining_function}
 -- the corridor of a word at a triangle
 pub use Rattle.gradient_bounds.specs.Corridor.{HasCorridor}
--- polygons, their points, and which points are triangles
+-- polygons, regions, their points, and which points are triangles
 pub use Rattle.rational_polygon.specs.Outline.{IsPolygon, IsInPolygon}
+pub use Rattle.rational_polygon.specs.Region.{IsRegion, IsInRegion}
 pub use Rattle.rational_polygon.specs.Point.{IsTriangle}
--- lines one after another, the text of a covering file, and what it says of its polygon
+-- lines one after another, the text of a covering file, and what it says of its region
 pub use Rattle.line_grammar.specs.Text.{text_of}
 pub use Rattle.covering_file.specs.Header.{Heading, IsHeading, header_text}
 pub use Rattle.covering_file.specs.Tree.{Tree, file_text}
 pub use Rattle.covering_file.specs.Covering.{IsCovered, IsCovering}
 
--- Where `check` is done, the bytes that the source had left are one whole covering file whose polygon is covered, and none is left.
+-- Where `check` is done, the bytes that the source had left are one whole covering file whose region is covered, and none is left.
 abbrev pub Headline : List (List ℕ) → Status → Option (List ℕ) → Option (List ℕ) → Type 0
 Headline arguments status left left' =
     arguments ≡ codes "check" ∷ [] → status ≡ Done → (bytes : List ℕ) → left ≡ Some bytes → IsCovering MAX_NODES bytes × IsAtEnd left'

@@ -34,4 +34,4 @@ job_word = 1 ∷ 2 ∷ 3 ∷ 1 ∷ 2 ∷ 3 ∷ []
 
 -- what job k says
 abbrev pub job_heading : ℕ → Heading
-job_heading k = record { outline = job_outline k; words = job_word ∷ []; depth = 10 }
+job_heading k = record { version = 1; region = job_outline k ∷ []; words = job_word ∷ []; depth = 10 }

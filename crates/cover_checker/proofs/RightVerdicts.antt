@@ -21,6 +21,7 @@ use Rattle.covering_file.specs.FilePart.{tree_part, tree_lines, file_lines, file
 use Rattle.covering_file.specs.Header.{Heading, IsHeading, header_lines, header_text}
 use Rattle.covering_file.specs.HeaderPart.{header_part}
 use Rattle.covering_file.specs.Verdicts.{IsAccepted, IsSureFile}
+use Rattle.covering_file.proofs.HeadLines.{some_version}
 use Rattle.covering_file.proofs.Accepted.{accepted_is_covering}
 use Rattle.covering_file.proofs.Passed.{passed_is_accepted}
 use Rattle.covering_file.proofs.Sure.{sure_is_not_refused}
@@ -164,7 +165,8 @@ is_refused g old new a b refusal line reason is fails = subst (λ (r : Option Re
 
 pub header_begins : (h : Heading) (old new : Reader) (a b : Option (List ℕ)) → IsNew old → TakesPart (header_part Cover) old new a b h → BeginsHeader Cover a
 header_begins h old new a b fresh takes =
-    subst (λ (x : Option (List ℕ)). BeginsHeader Cover x) (new_bytes old a fresh) (begins_header Cover _ old new a b takes.taken)
+    subst (λ (x : Option (List ℕ)). BeginsHeader Cover x) (new_bytes old a fresh) (begins_header Cover h.version _ old new a b
+    (some_version h.version (length h.region) takes.says.version) takes.taken)
 
 -- a fault that is none
 pub is_failed : (g : Grammar) (old new : Reader) (a b : Option (List ℕ)) (refusal : Option Refusal) → refusal ≡ None

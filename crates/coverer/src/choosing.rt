@@ -35,7 +35,7 @@ pub fn choose(
     ensures cause { HasCause header.now place result.node }
     ensures shut { AreShutOut header.now.words result.below place }
 {
-    if place.apart(header.polygon()) {
+    if place.apart_region(header.region()) {
         return Choice {
             node: Node::Outside,
             below: words,

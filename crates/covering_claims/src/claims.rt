@@ -43,7 +43,7 @@ pub fn may_stand<S: Scale>(
 {
     match node {
         Node::Split => place.level < header.depth(),
-        Node::Outside => place.apart(header.polygon()),
+        Node::Outside => place.apart_region(header.region()),
         Node::Shown(i) => is_shown(tests, i, place),
         Node::Uncovered => false,
     }

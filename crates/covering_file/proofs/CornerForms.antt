@@ -1,4 +1,4 @@
--- The forms of corners and of words read each line in one way.
+-- The forms of first lines, of corners and of words read each line in one way.
 use Rattle.std.proofs.Common.{◌≡◌, ◌↔◌, ℕ, ◌≤◌, ◌<◌, List, Option, Some, None, decimal, refl, sym, ap, ◌∙◌, subst, arith}
 use Rattle.edge_words.specs.Reading.{Spells, digits_of}
 use Rattle.edge_words.specs.Stable.{IsStable}
@@ -12,10 +12,36 @@ use Rattle.line_grammar.specs.Offence.{number_of}
 use Rattle.line_grammar.specs.Text.{IsTwoFields, two_fields}
 use Rattle.line_grammar.proofs.Lines.{decimal-no_space}
 use Rattle.line_grammar.proofs.TwoFields.{fields_are_one}
-use Rattle.covering_file.specs.Header.{IsStableWord, corner_line}
+use Rattle.covering_file.specs.declared.file_kind.FileKind.{FileKind}
+use Rattle.covering_file.specs.Header.{IsVersion, IsStableWord, first_line, corner_line}
+use Rattle.covering_file.specs.CornerForms.{RefusesFirst, first_form}
 use Rattle.covering_file.specs.CornerForms.{IsCornerLine, RefusesCorner, corner_form, CompletesNone, RefusesNextCorner, next_corner_form}
 use Rattle.covering_file.specs.CornerForms.{RefusesWord, word_form}
-use Rattle.covering_file.proofs.HeadLines.{corner_line-short, one_corner, digits_of-short}
+use Rattle.covering_file.proofs.HeadLines.{first_line-short, one_version, corner_line-short, one_corner, digits_of-short}
+
+-- ---- the first line
+
+first_passes : (kind : FileKind) (version : ℕ) (r : Reason) → IsVersion version → ¬ (RefusesFirst kind (first_line kind version) r)
+first_passes kind version OtherLine is refuses = refuses (version, is, refl)
+first_passes kind version r is refuses = refuses
+
+first_reason : (kind : FileKind) (line : List ℕ) (r s : Reason) → RefusesFirst kind line r → RefusesFirst kind line s → r ≡ s
+first_reason kind line OtherLine OtherLine p q = refl
+first_reason kind line OtherLine s p q = absurd q
+first_reason kind line r s p q = absurd p
+
+first_whole : (kind : FileKind) (line : List ℕ) (r : Reason) → RefusesFirst kind line r → 2 < number_of r
+first_whole kind line OtherLine p = omega arith
+first_whole kind line r p = absurd p
+
+pub first_is_form : (kind : FileKind) → IsForm (first_form kind)
+first_is_form kind = record {
+  short = first_line-short kind;
+  one_value = λ v w p q is. one_version kind v w p is;
+  passes = first_passes kind;
+  one_reason = first_reason kind;
+  whole = first_whole kind;
+}
 
 -- ---- the two numbers of a corner
 

@@ -1,4 +1,4 @@
--- Each point of the polygon lies in a box of a sound tree that is shown, and so has a corridor.
+-- Each point of the region lies in a box of a sound tree that is shown, and so has a corridor.
 use Rattle.std.proofs.Common.{◌⊎◌, inl, inr, ℕ, zero, suc, ◌^◌, ◌<◌, pos, refl, arith}
 use Rattle.std.proofs.lemmas.Int.{ints}
 use Rattle.std.proofs.lemmas.Nat.{pow_pos}
@@ -7,11 +7,9 @@ use Rattle.rat_core.proofs.Laws.{over_le}
 use Rattle.rat_core.proofs.Order.{over_positive}
 use Rattle.rational_polygon.specs.Point.{Point}
 use Rattle.rational_polygon.specs.Square.{Square, unit_square, child, IsInBox}
-use Rattle.rational_polygon.specs.Outline.{IsInPolygon}
-use Rattle.rational_polygon.proofs.Fan.{point_is_triangle}
-use Rattle.rational_polygon.proofs.Grid.{in_unit_square}
+use Rattle.rational_polygon.specs.Region.{IsInRegion}
 use Rattle.rational_polygon.proofs.Halves.{some_child}
-use Rattle.rational_polygon.proofs.Separation.{apart_has_none}
+use Rattle.rational_polygon.proofs.Regions.{region_in_unit_square, apart_region_has_none, region_point_is_triangle}
 use Rattle.gradient_bounds.specs.Slacks.{Slacks}
 use Rattle.gradient_bounds.specs.Slacks as slacks
 use Rattle.gradient_bounds.proofs.Boxes.{clear_gives_corridor_lem, clear_with_less_lem}
@@ -41,35 +39,35 @@ one_of_four (suc (suc (suc (suc c)))) P less p = absurd (omega (arith, less))
 abbrev IsSoundFrom : Heading → Slacks → Square → Tree → Type 0
 IsSoundFrom h e root t = (box : Square) (node : Node) → StandsAt root t box node → IsSoundNode h e box node
 
-found : (t : Tree) (h : Heading) (e : Slacks) (root : Square) (p : Point) → IsSoundFrom h e root t → IsInPolygon h.outline p → IsInBox root p → IsFound root t p
-found (leaf Split is) h e root p sound of_polygon inside = absurd is
-found (leaf Outside is) h e root p sound of_polygon inside = absurd (apart_has_none root h.outline p (sound root Outside (refl, refl)) of_polygon inside)
-found (leaf (Shown i) is) h e root p sound of_polygon inside = record { box = root; word = i; stands = (refl, refl); inside = inside }
-found (leaf Uncovered is) h e root p sound of_polygon inside = absurd (sound root Uncovered (refl, refl))
-found (split a b c d) h e root p sound of_polygon inside =
+found : (t : Tree) (h : Heading) (e : Slacks) (root : Square) (p : Point) → IsSoundFrom h e root t → IsInRegion h.region p → IsInBox root p → IsFound root t p
+found (leaf Split is) h e root p sound of_region inside = absurd is
+found (leaf Outside is) h e root p sound of_region inside = absurd (apart_region_has_none root h.region p (sound root Outside (refl, refl)) of_region inside)
+found (leaf (Shown i) is) h e root p sound of_region inside = record { box = root; word = i; stands = (refl, refl); inside = inside }
+found (leaf Uncovered is) h e root p sound of_region inside = absurd (sound root Uncovered (refl, refl))
+found (split a b c d) h e root p sound of_region inside =
     let part = some_child root p inside in
     elim (one_of_four part.0 (λ k. IsInBox (child root k) p) part.1 part.2) [
       | inl there ↦
-          let f = found a h e (child root 0) p (λ box node s. sound box node (inr (inl s))) of_polygon there in
+          let f = found a h e (child root 0) p (λ box node s. sound box node (inr (inl s))) of_region there in
           record { box = f.box; word = f.word; stands = inr (inl f.stands); inside = f.inside }
       | inr after_a ↦ elim after_a [
         | inl there ↦
-            let f = found b h e (child root 1) p (λ box node s. sound box node (inr (inr (inl s)))) of_polygon there in
+            let f = found b h e (child root 1) p (λ box node s. sound box node (inr (inr (inl s)))) of_region there in
             record { box = f.box; word = f.word; stands = inr (inr (inl f.stands)); inside = f.inside }
         | inr after_b ↦ elim after_b [
           | inl there ↦
-              let f = found c h e (child root 2) p (λ box node s. sound box node (inr (inr (inr (inl s))))) of_polygon there in
+              let f = found c h e (child root 2) p (λ box node s. sound box node (inr (inr (inr (inl s))))) of_region there in
               record { box = f.box; word = f.word; stands = inr (inr (inr (inl f.stands))); inside = f.inside }
           | inr there ↦
-              let f = found d h e (child root 3) p (λ box node s. sound box node (inr (inr (inr (inr s))))) of_polygon there in
+              let f = found d h e (child root 3) p (λ box node s. sound box node (inr (inr (inr (inr s))))) of_region there in
               record { box = f.box; word = f.word; stands = inr (inr (inr (inr f.stands))); inside = f.inside }
         ]
       ]
     ]
 
 pub sound_covers : SoundCovers
-sound_covers h t heading sound p of_polygon =
-    let f = found t h slacks.sound unit_square p sound of_polygon (in_unit_square h.outline p heading.polygon of_polygon) in
+sound_covers h t heading sound p of_region =
+    let f = found t h slacks.sound unit_square p sound of_region (region_in_unit_square h.region p heading.region of_region) in
     (f.box, f.word, f.stands, f.inside)
 
 -- ---- slacks
@@ -81,13 +79,13 @@ narrower : slacks.sound.gradient ≤ℚ slacks.sure.gradient
 narrower = over_le (pos 1) (pos 1) (2 ^ 60) (2 ^ 40) (pow_pos 60) (pow_pos 40) (omega (arith, ints))
 
 pub sound_is_covered : SoundIsCovered
-sound_is_covered h t heading sound p of_polygon triangle =
-    let f = sound_covers h t heading sound p of_polygon in
+sound_is_covered h t heading sound p of_region triangle =
+    let f = sound_covers h t heading sound p of_region in
     let shows = sound f.0 (Shown f.1) f.2 in
     (f.1, shows.0, clear_gives_corridor_lem (word_at h.words f.1) f.0 slacks.sound.gradient positive shows.1 p f.3)
 
 pub covered_everywhere : CoveredEverywhere
-covered_everywhere h heading covered p of_polygon = covered p of_polygon (point_is_triangle h.outline p heading.polygon of_polygon)
+covered_everywhere h heading covered p of_region = covered p of_region (region_point_is_triangle h.region p heading.region of_region)
 
 sure_node : (h : Heading) (box : Square) (node : Node) → IsSoundNode h slacks.sure box node → IsSoundNode h slacks.sound box node
 sure_node h box Split sure = sure

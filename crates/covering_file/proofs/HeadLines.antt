@@ -1,34 +1,74 @@
 -- The lines of a header by name: they are short and tell what they were made of.
 use Rattle.std.proofs.Common.{◌≡◌, ℕ, ◌+◌, ◌≤◌, ◌<◌, ◌^◌, List, length, decimal, codes}
-use Rattle.std.proofs.Common.{refl, ap, ◌∙◌, arith}
+use Rattle.std.proofs.Common.{refl, ap, ◌∙◌, arith, inl, inr}
+use Rattle.std.specs.Fmt.{digits}
 use Rattle.std.proofs.lemmas.List.{length-map}
 use Rattle.std.proofs.lemmas.List.Elements.{All-map}
 use Rattle.edge_words.specs.Reading.{digits_of}
 use Rattle.edge_words.specs.Word.{IsWord}
 use Rattle.mcb_ends.specs.Lines.{newline, IsShortLine}
 use Rattle.rational_polygon.specs.declared.TheConstants.{MAX_GRID}
-use Rattle.line_grammar.specs.declared.reason.Reason.TheVariants.{OtherLine, EndLine}
-use Rattle.line_grammar.specs.Form.{IsForm, whole_line, numbered_line}
+use Rattle.line_grammar.specs.declared.reason.Reason.TheVariants.{EndLine}
+use Rattle.line_grammar.specs.Form.{IsForm, IsName, whole_line, numbered_line}
 use Rattle.line_grammar.specs.Text.{space}
 use Rattle.line_grammar.proofs.Forms.{whole_is_form, numbered_is_form}
-use Rattle.line_grammar.proofs.Lines.{parted, lacks_byte, decimal-no_space, two_fields-short}
+use Rattle.line_grammar.proofs.Lines.{parted, lacks_byte, decimal-no_space, two_fields-short, one_number}
 use Rattle.line_grammar.proofs.Numbers.{decimal_without, length-decimal, decimal_one}
 use Rattle.covering_file.specs.declared.file_kind.FileKind.{FileKind}
 use Rattle.covering_file.specs.declared.file_kind.FileKind.TheVariants.{Cover, Job}
-use Rattle.covering_file.specs.Header.{first_line, corner_line}
+use Rattle.covering_file.specs.Header.{IsVersion, IsVersionFor, first_line, corner_line}
 
-pub first_line-short : (kind : FileKind) → IsShortLine (first_line kind)
-first_line-short Cover = record { one = lacks_byte newline (codes "mcbcover 1") refl; short = omega arith }
-first_line-short Job = record { one = lacks_byte newline (codes "mcbjob 1") refl; short = omega arith }
+-- ---- the first line
 
-pub one_kind : (kind other : FileKind) → first_line kind ≡ first_line other → kind ≡ other
-one_kind Cover Cover is = refl
-one_kind Cover Job is = absurd (omega (arith, ap length is))
-one_kind Job Cover is = absurd (omega (arith, ap length is))
-one_kind Job Job is = refl
+pub version_fits : (version : ℕ) → IsVersion version → version < 2 ^ 32
+version_fits version (inl is) = omega (arith, is)
+version_fits version (inr is) = omega (arith, is)
 
-pub first_is_form : (kind : FileKind) → IsForm (whole_line (first_line kind) OtherLine)
-first_is_form kind = whole_is_form (first_line kind) OtherLine (first_line-short kind) (omega arith)
+-- the version of a region is one
+pub some_version : (version polygons : ℕ) → IsVersionFor version polygons → IsVersion version
+some_version version polygons (inl is) = inl is.0
+some_version version polygons (inr is) = inr is
+
+-- how the versions are written
+pub cover_in_1 : first_line Cover 1 ≡ codes "mcbcover 1"
+unfolding digits
+cover_in_1 = refl
+
+pub cover_in_2 : first_line Cover 2 ≡ codes "mcbcover 2"
+unfolding digits
+cover_in_2 = refl
+
+pub job_in_1 : first_line Job 1 ≡ codes "mcbjob 1"
+unfolding digits
+job_in_1 = refl
+
+pub job_in_2 : first_line Job 2 ≡ codes "mcbjob 2"
+unfolding digits
+job_in_2 = refl
+
+cover_name : IsName (codes "mcbcover")
+cover_name = record { one_line = lacks_byte newline (codes "mcbcover") refl; one_field = lacks_byte space (codes "mcbcover") refl; short = omega arith }
+
+job_name : IsName (codes "mcbjob")
+job_name = record { one_line = lacks_byte newline (codes "mcbjob") refl; one_field = lacks_byte space (codes "mcbjob") refl; short = omega arith }
+
+pub first_line-short : (kind : FileKind) (version : ℕ) → IsVersion version → IsShortLine (first_line kind version)
+first_line-short Cover version is = two_fields-short (codes "mcbcover") version cover_name.one_line (omega arith) (version_fits version is)
+first_line-short Job version is = two_fields-short (codes "mcbjob") version job_name.one_line (omega arith) (version_fits version is)
+
+pub one_kind : (kind other : FileKind) (v w : ℕ) → first_line kind v ≡ first_line other w → kind ≡ other
+one_kind Cover Cover v w is = refl
+one_kind Cover Job v w is =
+    let fields = parted space (codes "mcbcover") (codes "mcbjob") (decimal v) (decimal w) cover_name.one_field job_name.one_field is in
+    absurd (omega (arith, ap length fields.0))
+one_kind Job Cover v w is =
+    let fields = parted space (codes "mcbjob") (codes "mcbcover") (decimal v) (decimal w) job_name.one_field cover_name.one_field is in
+    absurd (omega (arith, ap length fields.0))
+one_kind Job Job v w is = refl
+
+pub one_version : (kind : FileKind) (v w : ℕ) → IsVersion v → first_line kind v ≡ first_line kind w → v ≡ w
+one_version Cover v w says is = one_number (codes "mcbcover") v w (version_fits v says) is
+one_version Job v w says is = one_number (codes "mcbjob") v w (version_fits v says) is
 
 pub end_is_form : IsForm (whole_line (codes "end") EndLine)
 end_is_form = whole_is_form (codes "end") EndLine (record { one = lacks_byte newline (codes "end") refl; short = omega arith }) (omega arith)
@@ -44,6 +84,11 @@ pub polygon_is_form : (low high : ℕ) → high < 2 ^ 32 → IsForm (numbered_li
 polygon_is_form low high fits =
     numbered_is_form (codes "polygon") low high
     (record { one_line = lacks_byte newline (codes "polygon") refl; one_field = lacks_byte space (codes "polygon") refl; short = omega arith }) fits
+
+pub regions_is_form : (low high : ℕ) → high < 2 ^ 32 → IsForm (numbered_line (codes "regions") low high)
+regions_is_form low high fits =
+    numbered_is_form (codes "regions") low high
+    (record { one_line = lacks_byte newline (codes "regions") refl; one_field = lacks_byte space (codes "regions") refl; short = omega arith }) fits
 
 pub words_is_form : (low high : ℕ) → high < 2 ^ 32 → IsForm (numbered_line (codes "words") low high)
 words_is_form low high fits =

@@ -1,27 +1,29 @@
 -- The parts of a header, one after another.
-use Rattle.std.proofs.Common.{◌≡◌, ℕ, ◌+◌, ◌≤◌, ◌<◌, Bool, false, nat_lt, List, [], ◌∷◌, ◌++◌, length, map, codes, All, Option, IfOk, IfErr, Result, Ok, Err}
+use Rattle.std.proofs.Common.{◌≡◌, ℕ, ◌+◌, ◌≤◌, ◌<◌, Bool, false, nat_lt, List, [], ◌∷◌, ◌++◌, length, map, codes, All, Option, IfOk, IfErr, Result, Ok, Err, None, inl, inr}
 use Rattle.std.proofs.Common.{refl, sym, ap, ◌∙◌, subst, arith, length-append, append_assoc}
+use Rattle.std.specs.List.{flat_map}
 use Rattle.std.proofs.lemmas.Bool.{lt-ltb, le-ltb}
 use Rattle.std.proofs.lemmas.List.{length-map}
 use Rattle.edge_words.specs.Reading.{digits_of}
 use Rattle.mcb_ends.specs.Reader.{Reader}
-use Rattle.rational_polygon.specs.declared.TheConstants.{MAX_GRID, MIN_CORNERS, MAX_CORNERS}
+use Rattle.rational_polygon.specs.declared.TheConstants.{MAX_GRID, MIN_CORNERS, MAX_CORNERS, MAX_POLYGONS}
 use Rattle.rational_polygon.specs.Outline.{Outline, IsInside, IsPolygon}
-use Rattle.line_grammar.specs.declared.reason.Reason.TheVariants.{OtherLine}
+use Rattle.rational_polygon.specs.Region.{IsPolygonCount, grid_of}
 use Rattle.line_grammar.specs.Faults.{Refusal}
-use Rattle.line_grammar.specs.Form.{whole_line}
 use Rattle.line_grammar.specs.Part.{Part, AreSaid, line_part, lines_in_turn, followed_by, so_far}
-use Rattle.line_grammar.specs.Reading.{FailsPart, TakesPart, ReadsPart}
-use Rattle.line_grammar.proofs.Counted.{lines_of_each, said_each, said_repeated}
+use Rattle.line_grammar.specs.Reading.{FailsPart, StopsEarly, TakesPart, ReadsPart}
+use Rattle.line_grammar.proofs.Counted.{lines_of_each, lines_of_all, said_each, said_repeated}
 use Rattle.line_grammar.proofs.Parts.{fails_first, fails_second, takes_both, takes_turn, takes_all_turns, fails_turn, takes_seen}
 use Rattle.covering_file.specs.declared.fault.HeadFault.{HeadFault}
 use Rattle.covering_file.specs.Faults.{head_refusal}
 use Rattle.covering_file.specs.declared.TheConstants.{MAX_WORDS}
 use Rattle.covering_file.specs.declared.file_kind.FileKind.{FileKind}
-use Rattle.covering_file.specs.CornerForms.{next_corner_form, word_form}
-use Rattle.covering_file.specs.Header.{IsHeading, first_line, corner_line, outline_lines, words_lines, header_lines}
-use Rattle.covering_file.specs.HeaderPart.{named_part, corners_part, corners_so_far, counted_corners, polygon_part}
-use Rattle.covering_file.specs.HeaderPart.{listed_part, words_part, depth_part, after_polygon, after_first_line, header_part}
+use Rattle.covering_file.specs.CornerForms.{first_form, next_corner_form, word_form}
+use Rattle.covering_file.specs.Header.{IsHeading, IsVersion, IsVersionFor, first_line, corner_line}
+use Rattle.covering_file.specs.Header.{polygon_lines, count_lines, region_lines, words_lines, header_lines}
+use Rattle.covering_file.specs.HeaderPart.{named_part, corners_part, corners_so_far, IsPolygonOn, polygon_part, polygons_part}
+use Rattle.covering_file.specs.HeaderPart.{count_part, counted_polygons, IsRegionIn, region_part}
+use Rattle.covering_file.specs.HeaderPart.{listed_part, words_part, depth_part, after_region, after_first_line, header_part}
 
 -- ---- corners in turn
 
@@ -56,53 +58,159 @@ corners_number grid count cs old new a b takes = omega (arith, takes.taken.numbe
 
 -- ---- a polygon
 
-pub count_fails : (grid : ℕ) (old new mid : Reader) (a b c : Option (List ℕ)) (refusal : Option Refusal) → mid.is_done ≡ false
-    → TakesPart (named_part (codes "grid") 1 MAX_GRID) old mid a b grid
-    → FailsPart (named_part (codes "polygon") MIN_CORNERS MAX_CORNERS).grammar mid new b c refusal → FailsPart polygon_part.grammar old new a c refusal
-count_fails grid old new mid a b c refusal reading taken fails =
-    fails_second (named_part (codes "grid") 1 MAX_GRID) counted_corners grid old mid new a b c refusal taken
-    (fails_first (named_part (codes "polygon") MIN_CORNERS MAX_CORNERS) (corners_part grid) mid new b c refusal reading fails)
+abbrev pub corner_count : Part ℕ
+corner_count = named_part (codes "polygon") MIN_CORNERS MAX_CORNERS
 
-pub corners_fail : (grid count : ℕ) (old mid at new : Reader) (a b c d : Option (List ℕ)) (refusal : Option Refusal)
-    → TakesPart (named_part (codes "grid") 1 MAX_GRID) old mid a b grid → TakesPart (named_part (codes "polygon") MIN_CORNERS MAX_CORNERS) mid at b c count
-    → FailsPart (corners_part grid count).grammar at new c d refusal → FailsPart polygon_part.grammar old new a d refusal
-corners_fail grid count old mid at new a b c d refusal taken taken' fails =
-    fails_second (named_part (codes "grid") 1 MAX_GRID) counted_corners grid old mid new a b d refusal taken
-    (fails_second (named_part (codes "polygon") MIN_CORNERS MAX_CORNERS) (corners_part grid) count mid at new b c d refusal taken' fails)
+pub corners_fail : (grid count : ℕ) (old mid new : Reader) (a b c : Option (List ℕ)) (refusal : Option Refusal) → TakesPart corner_count old mid a b count
+    → FailsPart (corners_part grid count).grammar mid new b c refusal → FailsPart (polygon_part grid).grammar old new a c refusal
+corners_fail grid count old mid new a b c refusal taken fails =
+    fails_second corner_count (corners_part grid) count old mid new a b c refusal taken fails
 
-pub outline_taken : (grid count : ℕ) (cs : List (ℕ × ℕ)) (old mid at new : Reader) (a b c d : Option (List ℕ))
-    → TakesPart (named_part (codes "grid") 1 MAX_GRID) old mid a b grid → TakesPart (named_part (codes "polygon") MIN_CORNERS MAX_CORNERS) mid at b c count
-    → TakesPart (corners_so_far grid count) at new c d cs → length cs ≡ count → IsPolygon (record { grid = grid; corners = cs })
-    → TakesPart polygon_part old new a d (record { grid = grid; corners = cs })
-outline_taken grid count cs old mid at new a b c d taken taken' corners counted polygon =
-    let all = takes_all_turns (corner_due count) (corner_after grid count) cs at new c d corners (le-ltb (length cs) count (omega (arith, counted))) in
-    let two = takes_both (named_part (codes "polygon") MIN_CORNERS MAX_CORNERS) (corners_part grid) count cs mid at new b c d taken' all in
-    let three = takes_both (named_part (codes "grid") 1 MAX_GRID) counted_corners grid (count, cs) old mid new a b d taken two in
-    takes_seen (followed_by (named_part (codes "grid") 1 MAX_GRID) counted_corners) IsPolygon outline_lines (grid, (count, cs))
-    (record { grid = grid; corners = cs })
-    old new a d three polygon (same_lines grid count cs counted)
+pub outline_taken : (grid count : ℕ) (cs : List (ℕ × ℕ)) (old mid new : Reader) (a b c : Option (List ℕ)) → TakesPart corner_count old mid a b count
+    → TakesPart (corners_so_far grid count) mid new b c cs → length cs ≡ count → IsPolygon (record { grid = grid; corners = cs })
+    → TakesPart (polygon_part grid) old new a c (record { grid = grid; corners = cs })
+outline_taken grid count cs old mid new a b c taken corners counted polygon =
+    let all = takes_all_turns (corner_due count) (corner_after grid count) cs mid new b c corners (le-ltb (length cs) count (omega (arith, counted))) in
+    let two = takes_both corner_count (corners_part grid) count cs old mid new a b c taken all in
+    takes_seen (followed_by corner_count (corners_part grid)) (IsPolygonOn grid) polygon_lines (count, cs) (record { grid = grid; corners = cs })
+    old new a c two (polygon, refl) (same_lines grid count cs counted)
   where
     same_lines : (grid count : ℕ) (cs : List (ℕ × ℕ)) → length cs ≡ count
-        → (followed_by (named_part (codes "grid") 1 MAX_GRID) counted_corners).lines_of (grid, (count, cs))
-        ≡ outline_lines (record { grid = grid; corners = cs })
+        → (followed_by corner_count (corners_part grid)).lines_of (count, cs) ≡ polygon_lines (record { grid = grid; corners = cs })
     same_lines grid count cs counted =
-        ap (λ (ls : List (List ℕ)). (named_part (codes "grid") 1 MAX_GRID).lines_of grid
-        ++ ((named_part (codes "polygon") MIN_CORNERS MAX_CORNERS).lines_of count ++ ls)) (corner_lines grid count cs)
-        ∙ ap (λ n. (named_part (codes "grid") 1 MAX_GRID).lines_of grid
-        ++ ((named_part (codes "polygon") MIN_CORNERS MAX_CORNERS).lines_of n ++ map corner_line cs)) (sym counted)
+        ap (λ (ls : List (List ℕ)). corner_count.lines_of count ++ ls) (corner_lines grid count cs)
+        ∙ ap (λ n. corner_count.lines_of n ++ map corner_line cs) (sym counted)
 
 -- the last corner, after the others
-pub last_taken : (grid count : ℕ) (cs : List (ℕ × ℕ)) (o : Outline) (old mid at mid' new : Reader) (a b c d e : Option (List ℕ))
-    → TakesPart (named_part (codes "grid") 1 MAX_GRID) old mid a b grid → TakesPart (named_part (codes "polygon") MIN_CORNERS MAX_CORNERS) mid at b c count
-    → TakesPart (corners_so_far grid count) at mid' c d cs → length cs + 1 ≡ count → IsPolygon o
-    → (x : ℕ × ℕ) × (o ≡ record { grid = grid; corners = cs ++ x ∷ [] }) × TakesPart (line_part (next_corner_form grid (length cs + 1) cs)) mid' new d e x
-    → TakesPart polygon_part old new a e o
-last_taken grid count cs o old mid at mid' new a b c d e taken taken' corners counted polygon (x, is, last) =
-    let last' = subst (λ n. TakesPart (line_part (next_corner_form grid n cs)) mid' new d e x) counted last in
-    let all = corner_turn_taken grid count cs x at mid' new c d e corners (omega (arith, counted)) last' in
+pub last_taken : (grid count : ℕ) (cs : List (ℕ × ℕ)) (o : Outline) (old mid mid' new : Reader) (a b c d : Option (List ℕ))
+    → TakesPart corner_count old mid a b count → TakesPart (corners_so_far grid count) mid mid' b c cs → length cs + 1 ≡ count → IsPolygon o
+    → (x : ℕ × ℕ) × (o ≡ record { grid = grid; corners = cs ++ x ∷ [] }) × TakesPart (line_part (next_corner_form grid (length cs + 1) cs)) mid' new c d x
+    → TakesPart (polygon_part grid) old new a d o
+last_taken grid count cs o old mid mid' new a b c d taken corners counted polygon (x, is, last) =
+    let last' = subst (λ n. TakesPart (line_part (next_corner_form grid n cs)) mid' new c d x) counted last in
+    let all = corner_turn_taken grid count cs x mid mid' new b c d corners (omega (arith, counted)) last' in
     let polygon' = subst IsPolygon is polygon in
-    subst (λ (p : Outline). TakesPart polygon_part old new a e p) (sym is)
-    (outline_taken grid count (cs ++ x ∷ []) old mid at new a b c e taken taken' all (omega (arith, length-append cs (x ∷ []), counted)) polygon')
+    subst (λ (p : Outline). TakesPart (polygon_part grid) old new a d p) (sym is)
+    (outline_taken grid count (cs ++ x ∷ []) old mid new a b d taken all (omega (arith, length-append cs (x ∷ []), counted)) polygon')
+
+-- a polygon has at most 17 lines
+pub polygon_number : (grid : ℕ) (o : Outline) (old new : Reader) (a b : Option (List ℕ)) → TakesPart (polygon_part grid) old new a b o
+    → new.number ≤ old.number + 17
+polygon_number grid o old new a b takes =
+    omega (arith, takes.taken.number, length-map o.corners corner_line, takes.says.0.count.1)
+
+-- ---- polygons in turn
+
+abbrev pub polygon_due : ℕ → List Outline → Bool
+polygon_due count polygons = nat_lt (length polygons) count
+
+abbrev pub polygon_after : ℕ → List Outline → Part Outline
+polygon_after grid _ = polygon_part grid
+
+abbrev pub polygons_so_far : ℕ → ℕ → Part (List Outline)
+polygons_so_far grid count = so_far (polygon_due count) (polygon_after grid)
+
+pub polygon_turn_fails : (grid count : ℕ) (ps : List Outline) (old mid new : Reader) (a b c : Option (List ℕ)) (refusal : Option Refusal)
+    → TakesPart (polygons_so_far grid count) old mid a b ps → length ps < count → FailsPart (polygon_part grid).grammar mid new b c refusal
+    → FailsPart (polygons_part grid count).grammar old new a c refusal
+polygon_turn_fails grid count ps old mid new a b c refusal takes less fails =
+    fails_turn (polygon_due count) (polygon_after grid) ps old mid new a b c refusal takes (lt-ltb (length ps) count less) fails
+
+pub polygon_turn_taken : (grid count : ℕ) (ps : List Outline) (p : Outline) (old mid new : Reader) (a b c : Option (List ℕ))
+    → TakesPart (polygons_so_far grid count) old mid a b ps → length ps < count → TakesPart (polygon_part grid) mid new b c p
+    → TakesPart (polygons_so_far grid count) old new a c (ps ++ p ∷ [])
+polygon_turn_taken grid count ps p old mid new a b c takes less one =
+    takes_turn (polygon_due count) (polygon_after grid) ps p old mid new a b c takes (lt-ltb (length ps) count less) one
+
+pub all_polygons : (grid count : ℕ) (ps : List Outline) (old new : Reader) (a b : Option (List ℕ)) → TakesPart (polygons_so_far grid count) old new a b ps
+    → length ps ≡ count → TakesPart (polygons_part grid count) old new a b ps
+all_polygons grid count ps old new a b takes counted =
+    takes_all_turns (polygon_due count) (polygon_after grid) ps old new a b takes (le-ltb (length ps) count (omega (arith, counted)))
+
+pub polygons_lines : (grid : ℕ) (ps : List Outline) → lines_in_turn (polygon_after grid) [] ps ≡ flat_map polygon_lines ps
+polygons_lines grid ps = lines_of_all (polygon_after grid) polygon_lines (λ l p. refl) [] ps
+
+-- ---- a region
+
+abbrev pub grid_part : Part ℕ
+grid_part = named_part (codes "grid") 1 MAX_GRID
+
+-- the lines of the count are those that the version has
+pub count_lines-of : (version count : ℕ) → IsVersion version → (count_part version).lines_of count ≡ count_lines version count
+count_lines-of version count (inl is) =
+    subst (λ (v : ℕ). (count_part v).lines_of count ≡ count_lines v count) (sym is) refl
+count_lines-of version count (inr is) =
+    subst (λ (v : ℕ). (count_part v).lines_of count ≡ count_lines v count) (sym is) refl
+
+-- and its values are right for the version
+pub count_within : (version count : ℕ) → IsVersion version → (count_part version).Says count → IsPolygonCount count × IsVersionFor version count
+count_within version count (inl is) says =
+    let one : count ≡ 1 = subst (λ (v : ℕ). (count_part v).Says count) is says in
+    ((omega (arith, one), omega (arith, one)), inl (is, one))
+count_within version count (inr is) says =
+    let some : (1 ≤ count) × (count ≤ MAX_POLYGONS) = subst (λ (v : ℕ). (count_part v).Says count) is says in
+    (some, inr is)
+
+pub count_says : (version count : ℕ) → IsVersionFor version count → IsPolygonCount count → (count_part version).Says count
+count_says version count (inl is) within = subst (λ (v : ℕ). (count_part v).Says count) (sym is.0) is.1
+count_says version count (inr is) within = subst (λ (v : ℕ). (count_part v).Says count) (sym is) within
+
+pub grid_fails : (version : ℕ) (old new : Reader) (a b : Option (List ℕ)) (refusal : Option Refusal) → old.is_done ≡ false
+    → FailsPart grid_part.grammar old new a b refusal → FailsPart (region_part version).grammar old new a b refusal
+grid_fails version old new a b refusal reading fails = fails_first grid_part (counted_polygons version) old new a b refusal reading fails
+
+pub count_fails : (version grid : ℕ) (old mid new : Reader) (a b c : Option (List ℕ)) (refusal : Option Refusal) → mid.is_done ≡ false
+    → TakesPart grid_part old mid a b grid → FailsPart (count_part version).grammar mid new b c refusal
+    → FailsPart (region_part version).grammar old new a c refusal
+count_fails version grid old mid new a b c refusal reading taken fails =
+    fails_second grid_part (counted_polygons version) grid old mid new a b c refusal taken
+    (fails_first (count_part version) (polygons_part grid) mid new b c refusal reading fails)
+
+pub polygons_fail : (version grid count : ℕ) (old mid at new : Reader) (a b c d : Option (List ℕ)) (refusal : Option Refusal)
+    → TakesPart grid_part old mid a b grid → TakesPart (count_part version) mid at b c count
+    → FailsPart (polygons_part grid count).grammar at new c d refusal → FailsPart (region_part version).grammar old new a d refusal
+polygons_fail version grid count old mid at new a b c d refusal taken counted fails =
+    fails_second grid_part (counted_polygons version) grid old mid new a b d refusal taken
+    (fails_second (count_part version) (polygons_part grid) count mid at new b c d refusal counted fails)
+
+-- polygons on one grid, so many as the version has, are a region
+pub makes_region : (version grid count : ℕ) (ps : List Outline) → IsVersion version → (count_part version).Says count → (polygons_part grid count).Says ps
+    → IsRegionIn version ps × (grid_of ps ≡ grid) × (length ps ≡ count)
+makes_region version grid count ps is counted says =
+    let both = said_repeated count (polygon_part grid) ps says in
+    let within = count_within version count is counted in
+    let some : 0 < length ps = omega (arith, both.1, within.0.0) in
+    let none : Outline = record { grid = 0; corners = [] } in
+    let of_first : grid_of ps ≡ grid = (both.0 0 none some).1 in (
+      (
+        subst (IsVersionFor version) (sym both.1) within.1,
+        record {
+          count = subst IsPolygonCount (sym both.1) within.0;
+          polygons = λ k d less. (both.0 k d less).0;
+          one_grid = λ k d less. (both.0 k d less).1 ∙ sym of_first;
+        },
+      ),
+      of_first,
+      both.1,
+    )
+
+pub region_taken : (version grid count : ℕ) (ps : List Outline) (old mid at new : Reader) (a b c d : Option (List ℕ)) → IsVersion version
+    → TakesPart grid_part old mid a b grid → TakesPart (count_part version) mid at b c count → TakesPart (polygons_part grid count) at new c d ps
+    → TakesPart (region_part version) old new a d ps
+region_taken version grid count ps old mid at new a b c d is taken counted polygons =
+    let makes = makes_region version grid count ps is counted.says polygons.says in
+    let two = takes_both (count_part version) (polygons_part grid) count ps mid at new b c d counted polygons in
+    let three = takes_both grid_part (counted_polygons version) grid (count, ps) old mid new a b d taken two in
+    takes_seen (followed_by grid_part (counted_polygons version)) (IsRegionIn version) (region_lines version) (grid, (count, ps)) ps
+    old new a d three makes.0 (same_lines makes.1 makes.2)
+  where
+    same_lines : grid_of ps ≡ grid → length ps ≡ count
+        → (followed_by grid_part (counted_polygons version)).lines_of (grid, (count, ps)) ≡ region_lines version ps
+    same_lines of_first number =
+        ap (λ (ls : List (List ℕ)). grid_part.lines_of grid ++ (ls ++ lines_in_turn (polygon_after grid) [] ps)) (count_lines-of version count is)
+        ∙ ap (λ (ls : List (List ℕ)). grid_part.lines_of grid ++ (count_lines version count ++ ls)) (polygons_lines grid ps)
+        ∙ ap (λ (n : ℕ). grid_part.lines_of grid ++ (count_lines version n ++ flat_map polygon_lines ps)) (sym number)
+        ∙ ap (λ (g : ℕ). grid_part.lines_of g ++ (count_lines version (length ps) ++ flat_map polygon_lines ps)) (sym of_first)
 
 -- ---- words
 
@@ -156,57 +264,79 @@ words_fail count old mid new a b c refusal taken fails =
 
 -- ---- a header
 
-abbrev pub first_part : FileKind → Part (Unit {0})
-first_part kind = line_part (whole_line (first_line kind) OtherLine)
+abbrev pub first_part : FileKind → Part ℕ
+first_part kind = line_part (first_form kind)
 
-pub outline_fails : (kind : FileKind) (old mid new : Reader) (a b c : Option (List ℕ)) (refusal : Option Refusal) → mid.is_done ≡ false
-    → TakesPart (first_part kind) old mid a b tt → FailsPart polygon_part.grammar mid new b c refusal → FailsPart (header_part kind).grammar old new a c refusal
-outline_fails kind old mid new a b c refusal reading first fails =
-    fails_second (first_part kind) after_first_line tt old mid new a b c refusal first
-    (fails_first polygon_part after_polygon mid new b c refusal reading fails)
+pub first_fails : (kind : FileKind) (old new : Reader) (a b : Option (List ℕ)) (refusal : Option Refusal) → old.is_done ≡ false
+    → FailsPart (first_part kind).grammar old new a b refusal → FailsPart (header_part kind).grammar old new a b refusal
+first_fails kind old new a b refusal reading fails = fails_first (first_part kind) after_first_line old new a b refusal reading fails
 
-pub header_words_fail : (kind : FileKind) (o : Outline) (old mid at new : Reader) (a b c d : Option (List ℕ)) (refusal : Option Refusal) → at.is_done ≡ false
-    → TakesPart (first_part kind) old mid a b tt → TakesPart polygon_part mid at b c o → FailsPart words_part.grammar at new c d refusal
-    → FailsPart (header_part kind).grammar old new a d refusal
-header_words_fail kind o old mid at new a b c d refusal reading first outline fails =
-    fails_second (first_part kind) after_first_line tt old mid new a b d refusal first
-    (fails_second polygon_part after_polygon o mid at new b c d refusal outline (fails_first words_part (λ _. depth_part) at new c d refusal reading fails))
+pub region_fails : (kind : FileKind) (v : ℕ) (old mid new : Reader) (a b c : Option (List ℕ)) (refusal : Option Refusal) → mid.is_done ≡ false
+    → TakesPart (first_part kind) old mid a b v → FailsPart (region_part v).grammar mid new b c refusal
+    → FailsPart (header_part kind).grammar old new a c refusal
+region_fails kind v old mid new a b c refusal reading first fails =
+    fails_second (first_part kind) after_first_line v old mid new a b c refusal first
+    (fails_first (region_part v) after_region mid new b c refusal reading fails)
 
-pub depth_fails : (kind : FileKind) (o : Outline) (ws : List (List ℕ)) (old mid at last new : Reader) (a b c d e : Option (List ℕ)) (refusal : Option Refusal)
-    → TakesPart (first_part kind) old mid a b tt → TakesPart polygon_part mid at b c o → TakesPart words_part at last c d ws
+pub header_words_fail : (kind : FileKind) (v : ℕ) (ps : List Outline) (old mid at new : Reader) (a b c d : Option (List ℕ)) (refusal : Option Refusal)
+    → at.is_done ≡ false → TakesPart (first_part kind) old mid a b v → TakesPart (region_part v) mid at b c ps
+    → FailsPart words_part.grammar at new c d refusal → FailsPart (header_part kind).grammar old new a d refusal
+header_words_fail kind v ps old mid at new a b c d refusal reading first region fails =
+    fails_second (first_part kind) after_first_line v old mid new a b d refusal first
+    (fails_second (region_part v) after_region ps mid at new b c d refusal region
+    (fails_first words_part (λ _. depth_part) at new c d refusal reading fails))
+
+pub depth_fails : (kind : FileKind) (v : ℕ) (ps : List Outline) (ws : List (List ℕ)) (old mid at last new : Reader) (a b c d e : Option (List ℕ))
+    (refusal : Option Refusal) → TakesPart (first_part kind) old mid a b v → TakesPart (region_part v) mid at b c ps → TakesPart words_part at last c d ws
     → FailsPart depth_part.grammar last new d e refusal → FailsPart (header_part kind).grammar old new a e refusal
-depth_fails kind o ws old mid at last new a b c d e refusal first outline words fails =
-    fails_second (first_part kind) after_first_line tt old mid new a b e refusal first
-    (fails_second polygon_part after_polygon o mid at new b c e refusal outline
+depth_fails kind v ps ws old mid at last new a b c d e refusal first region words fails =
+    fails_second (first_part kind) after_first_line v old mid new a b e refusal first
+    (fails_second (region_part v) after_region ps mid at new b c e refusal region
     (fails_second words_part (λ _. depth_part) ws at last new c d e refusal words fails))
 
-pub header_taken : (kind : FileKind) (o : Outline) (ws : List (List ℕ)) (depth : ℕ) (old mid at last new : Reader) (a b c d e : Option (List ℕ))
-    → TakesPart (first_part kind) old mid a b tt → TakesPart polygon_part mid at b c o → TakesPart words_part at last c d ws
-    → TakesPart depth_part last new d e depth → TakesPart (header_part kind) old new a e (record { outline = o; words = ws; depth = depth })
-header_taken kind o ws depth old mid at last new a b c d e first outline words deep =
+pub header_taken : (kind : FileKind) (v : ℕ) (ps : List Outline) (ws : List (List ℕ)) (depth : ℕ) (old mid at last new : Reader)
+    (a b c d e : Option (List ℕ)) → TakesPart (first_part kind) old mid a b v → TakesPart (region_part v) mid at b c ps → TakesPart words_part at last c d ws
+    → TakesPart depth_part last new d e depth
+    → TakesPart (header_part kind) old new a e (record { version = v; region = ps; words = ws; depth = depth })
+header_taken kind v ps ws depth old mid at last new a b c d e first region words deep =
     let two = takes_both words_part (λ _. depth_part) ws depth at last new c d e words deep in
-    let three = takes_both polygon_part after_polygon o (ws, depth) mid at new b c e outline two in
-    let four = takes_both (first_part kind) after_first_line tt (o, (ws, depth)) old mid new a b e first three in
-    takes_seen (followed_by (first_part kind) after_first_line) IsHeading (header_lines kind) (tt, (o, (ws, depth)))
-    (record { outline = o; words = ws; depth = depth })
-    old new a e four (record { polygon = outline.says; word_count = words.says.0; stable = words.says.1; depth = deep.says.1 })
-    (ap (λ (ls : List (List ℕ)). first_line kind ∷ ls) (sym (append_assoc (outline_lines o) (words_lines ws) (depth_part.lines_of depth))))
+    let three = takes_both (region_part v) after_region ps (ws, depth) mid at new b c e region two in
+    let four = takes_both (first_part kind) after_first_line v (ps, (ws, depth)) old mid new a b e first three in
+    takes_seen (followed_by (first_part kind) after_first_line) IsHeading (header_lines kind) (v, (ps, (ws, depth)))
+    (record { version = v; region = ps; words = ws; depth = depth })
+    old new a e four
+    (record { version = region.says.0; region = region.says.1; word_count = words.says.0; stable = words.says.1; depth = deep.says.1 })
+    (ap (λ (ls : List (List ℕ)). first_line kind v ∷ ls) (sym (append_assoc (region_lines v ps) (words_lines ws) (depth_part.lines_of depth))))
 
 -- ---- what the last call of a part answers
 
-pub outline_read : (grid count : ℕ) (cs : List (ℕ × ℕ)) (result : Result Outline HeadFault) (old mid at mid' new : Reader) (a b c d e : Option (List ℕ))
-    → TakesPart (named_part (codes "grid") 1 MAX_GRID) old mid a b grid → TakesPart (named_part (codes "polygon") MIN_CORNERS MAX_CORNERS) mid at b c count
-    → TakesPart (corners_so_far grid count) at mid' c d cs → length cs + 1 ≡ count → IfOk result IsPolygon
+pub polygon_read : (grid count : ℕ) (cs : List (ℕ × ℕ)) (result : Result Outline HeadFault) (old mid mid' new : Reader) (a b c d : Option (List ℕ))
+    → TakesPart corner_count old mid a b count → TakesPart (corners_so_far grid count) mid mid' b c cs → length cs + 1 ≡ count → IfOk result IsPolygon
     → IfOk result (λ o. (x : ℕ × ℕ) × (o ≡ record { grid = grid; corners = cs ++ x ∷ [] })
-    × TakesPart (line_part (next_corner_form grid (length cs + 1) cs)) mid' new d e x)
-    → IfErr result (λ fault. FailsPart (line_part (next_corner_form grid (length cs + 1) cs)).grammar mid' new d e (head_refusal fault))
-    → ReadsPart polygon_part head_refusal old new a e result
-outline_read grid count cs (Ok o) old mid at mid' new a b c d e taken taken' corners counted polygon last fails =
-    last_taken grid count cs o old mid at mid' new a b c d e taken taken' corners counted polygon last
-outline_read grid count cs (Err fault) old mid at mid' new a b c d e taken taken' corners counted polygon last fails =
-    let fails' = subst (λ n. FailsPart (line_part (next_corner_form grid n cs)).grammar mid' new d e (head_refusal fault)) counted fails in
-    corners_fail grid count old mid at new a b c e (head_refusal fault) taken taken'
-    (corner_turn_fails grid count cs at mid' new c d e (head_refusal fault) corners (omega (arith, counted)) fails')
+    × TakesPart (line_part (next_corner_form grid (length cs + 1) cs)) mid' new c d x)
+    → IfErr result (λ fault. FailsPart (line_part (next_corner_form grid (length cs + 1) cs)).grammar mid' new c d (head_refusal fault))
+    → ReadsPart (polygon_part grid) head_refusal old new a d result
+polygon_read grid count cs (Ok o) old mid mid' new a b c d taken corners counted polygon last fails =
+    last_taken grid count cs o old mid mid' new a b c d taken corners counted polygon last
+polygon_read grid count cs (Err fault) old mid mid' new a b c d taken corners counted polygon last fails =
+    let fails' = subst (λ n. FailsPart (line_part (next_corner_form grid n cs)).grammar mid' new c d (head_refusal fault)) counted fails in
+    corners_fail grid count old mid new a b d (head_refusal fault) taken
+    (corner_turn_fails grid count cs mid mid' new b c d (head_refusal fault) corners (omega (arith, counted)) fails')
+
+-- what is read stops where the last corner does
+pub polygon_stops : (grid count : ℕ) (cs : List (ℕ × ℕ)) (result : Result Outline HeadFault) (old mid mid' new : Reader) (a b c d : Option (List ℕ))
+    → TakesPart corner_count old mid a b count → TakesPart (corners_so_far grid count) mid mid' b c cs → length cs + 1 ≡ count
+    → IfOk result (λ _. StopsEarly (line_part (next_corner_form grid (length cs + 1) cs)).grammar mid' new c d)
+    → IfOk result (λ _. StopsEarly (polygon_part grid).grammar old new a d)
+polygon_stops grid count cs (Ok o) old mid mid' new a b c d taken corners counted stops =
+    let stops' = subst (λ n. StopsEarly (line_part (next_corner_form grid n cs)).grammar mid' new c d) counted stops in
+    corners_fail grid count old mid new a b d None taken (corner_turn_fails grid count cs mid mid' new b c d None corners (omega (arith, counted)) stops')
+polygon_stops grid count cs (Err fault) old mid mid' new a b c d taken corners counted stops = tt
+
+pub polygon_number-if : (grid : ℕ) (result : Result Outline HeadFault) (old new : Reader) (a b : Option (List ℕ))
+    → ReadsPart (polygon_part grid) head_refusal old new a b result → IfOk result (λ _. new.number ≤ old.number + 17)
+polygon_number-if grid (Ok o) old new a b reads = polygon_number grid o old new a b reads
+polygon_number-if grid (Err fault) old new a b reads = tt
 
 pub words_read : {W : Type 0} (result : Result W HeadFault) (items : W → List (List ℕ)) (count : ℕ) (old mid new : Reader) (a b c : Option (List ℕ))
     → TakesPart (named_part (codes "words") 1 MAX_WORDS) old mid a b count → IfOk result (λ w. TakesPart (listed_part count) mid new b c (items w))
@@ -220,15 +350,3 @@ pub words_not_read : {W : Type 0} (result : Result W HeadFault) (count : ℕ) (o
     → IfErr result (λ fault. FailsPart words_part.grammar old new a c (head_refusal fault))
 words_not_read (Ok w) count old mid new a b c taken fails = tt
 words_not_read (Err fault) count old mid new a b c taken fails = words_fail count old mid new a b c (head_refusal fault) taken fails
-
--- the first line, by the text that is asked for
-pub first_takes : (kind : FileKind) (text : List ℕ) (v : Unit {0}) (old new : Reader) (a b : Option (List ℕ)) → text ≡ first_line kind
-    → TakesPart (line_part (whole_line text OtherLine)) old new a b v → TakesPart (first_part kind) old new a b tt
-first_takes kind text v old new a b is takes = subst (λ (t : List ℕ). TakesPart (line_part (whole_line t OtherLine)) old new a b tt) is takes
-
-pub first_fails : (kind : FileKind) (text : List ℕ) (old new : Reader) (a b : Option (List ℕ)) (refusal : Option Refusal) → text ≡ first_line kind
-    → old.is_done ≡ false
-    → FailsPart (line_part (whole_line text OtherLine)).grammar old new a b refusal → FailsPart (header_part kind).grammar old new a b refusal
-first_fails kind text old new a b refusal is reading fails =
-    fails_first (first_part kind) after_first_line old new a b refusal reading
-    (subst (λ (t : List ℕ). FailsPart (line_part (whole_line t OtherLine)).grammar old new a b refusal) is fails)

@@ -1,5 +1,5 @@
 -- The parts of a job: a header, the end line, and nothing after it.
-use Rattle.std.proofs.Common.{◌≡◌, ℕ, false, List, ◌++◌, codes, Option, IfErr, Result, refl, sym, subst}
+use Rattle.std.proofs.Common.{◌≡◌, ℕ, false, List, ◌++◌, length, codes, Option, IfErr, Result, refl, sym, subst}
 use Rattle.mcb_ends.specs.Reader.{Reader, bytes_before}
 use Rattle.line_grammar.specs.declared.reason.Reason.TheVariants.{EndLine}
 use Rattle.line_grammar.specs.declared.fault.LineFault.{LineFault}
@@ -14,9 +14,10 @@ use Rattle.covering_file.specs.declared.fault.HeadFault.{HeadFault}
 use Rattle.covering_file.specs.declared.file_kind.FileKind.{FileKind}
 use Rattle.covering_file.specs.declared.file_kind.FileKind.TheVariants.{Job}
 use Rattle.covering_file.specs.Faults.{BeginsHeader, WantsMemory, head_of, head_refusal}
-use Rattle.covering_file.specs.Header.{Heading, IsHeading, job_lines, outline_lines, words_lines}
+use Rattle.covering_file.specs.Header.{Heading, IsHeading, job_lines, region_lines, words_lines}
 use Rattle.covering_file.specs.HeaderPart.{header_part, ended_header, job_part, depth_part}
 use Rattle.covering_file.proofs.HeadFaults.{same_refusal}
+use Rattle.covering_file.proofs.HeadLines.{some_version}
 use Rattle.covering_file.proofs.Wanting.{begins_header}
 
 -- the end line, after any header
@@ -61,7 +62,8 @@ pub begins_new : (kind : FileKind) (h : Heading) (old new : Reader) (a b : Optio
     → BeginsHeader kind a
 begins_new kind h old new a b is header =
     subst (BeginsHeader kind) (new_bytes old a is)
-    (begins_header kind (outline_lines h.outline ++ words_lines h.words ++ depth_part.lines_of h.depth) old new a b header.taken)
+    (begins_header kind h.version (region_lines h.version h.region ++ words_lines h.words ++ depth_part.lines_of h.depth) old new a b
+    (some_version h.version (length h.region) header.says.version) header.taken)
 
 -- ---- a line's fault in a job
 

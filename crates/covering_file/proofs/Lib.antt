@@ -4,6 +4,7 @@ pub mod HeaderFaults
 pub mod HeadFaults
 pub mod Pushed
 pub mod NextCorner
+pub mod HeaderLengths
 pub mod HeaderParts
 pub mod Wanting
 pub mod JobParts

@@ -12,7 +12,7 @@ use Rattle.covering_file.specs.declared.fault.HeadFault.{HeadFault}
 use Rattle.covering_file.specs.declared.fault.HeadFault.TheVariants.{Line, Read, Memory}
 use Rattle.covering_file.specs.declared.file_kind.FileKind.{FileKind}
 use Rattle.covering_file.specs.Faults.{BeginsHeader, WantsMemory, head_of}
-use Rattle.covering_file.specs.Header.{first_line}
+use Rattle.covering_file.specs.Header.{IsVersion, first_line}
 
 -- some bytes that a source may have left
 some_rest : (left : Option (List ℕ)) → (rest : List ℕ) × MayBe left rest
@@ -20,14 +20,14 @@ some_rest None = ([], tt)
 some_rest (Some rest) = (rest, refl)
 
 -- lines were taken of which the first is that of a header
-pub begins_header : (kind : FileKind) (lines : List (List ℕ)) (old new : Reader) (a b : Option (List ℕ)) → TakesLines (first_line kind ∷ lines) old new a b
-    → BeginsHeader kind (bytes_before old a)
-begins_header kind lines old new a b taken =
+pub begins_header : (kind : FileKind) (version : ℕ) (lines : List (List ℕ)) (old new : Reader) (a b : Option (List ℕ)) → IsVersion version
+    → TakesLines (first_line kind version ∷ lines) old new a b → BeginsHeader kind (bytes_before old a)
+begins_header kind version lines old new a b is taken =
     let rest = some_rest (bytes_before new b) in
-    let all = text_of (first_line kind ∷ lines) in (
+    let all = text_of (first_line kind version ∷ lines) in (
       all ++ rest.0,
       may_be_more (bytes_before old a) (bytes_before new b) all rest.0 taken.bytes rest.1,
-      (text_of lines ++ rest.0, (taken.each 0 [] (omega arith), line-text (first_line kind) (text_of lines) rest.0)),
+      (version, is, (text_of lines ++ rest.0, (taken.each 0 [] (omega arith), line-text (first_line kind version) (text_of lines) rest.0))),
     )
 
 -- the fault of a line wants none

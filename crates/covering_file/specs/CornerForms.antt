@@ -1,4 +1,4 @@
--- The lines of corners and of words, by their forms.
+-- The first line of a file, and the lines of corners and of words, by their forms.
 use Rattle.std.specs.Prelude.{◌≡◌, ℕ, ◌+◌, ◌≤◌, List, [], ◌∷◌, ◌++◌, length}
 use Rattle.edge_words.specs.Reading.{Spells, digits_of}
 use Rattle.edge_words.specs.Stable.{IsStable}
@@ -8,7 +8,16 @@ use Rattle.line_grammar.specs.declared.reason.Reason.{Reason}
 use Rattle.line_grammar.specs.declared.reason.Reason.TheVariants.{OtherLine, Number, CornerOutside, NotConvex, NotAWord, UnstableWord}
 use Rattle.line_grammar.specs.Form.{LineForm}
 use Rattle.line_grammar.specs.Text.{IsTwoFields}
-use Rattle.covering_file.specs.Header.{IsStableWord, corner_line}
+use Rattle.covering_file.specs.declared.file_kind.FileKind.{FileKind}
+use Rattle.covering_file.specs.Header.{IsVersion, IsStableWord, first_line, corner_line}
+
+-- why a line is not the first of such a file, in any version
+abbrev pub RefusesFirst : FileKind → List ℕ → Reason → Type 0
+RefusesFirst kind line OtherLine = ¬ ((version : ℕ) × IsVersion version × (line ≡ first_line kind version))
+RefusesFirst kind line reason = ⊥
+
+abbrev pub first_form : FileKind → LineForm ℕ
+first_form kind = record { line_of = first_line kind; Says = IsVersion; Refuses = RefusesFirst kind }
 
 -- two numbers, up to the greatest grid: those of the corner
 pub record IsCornerLine (line : List ℕ) (c : ℕ × ℕ) : Type 0 where

@@ -3,11 +3,11 @@ use Rattle.std.specs.Prelude.{ℕ, ◌-◌, ◌<◌, ◌≤◌, Bool, true, fals
 use Rattle.std.specs.declared.option.Option.{Option}
 use Rattle.edge_words.specs.Stable.{IsStable}
 use Rattle.covering_file.specs.declared.fault.HeaderFault.{HeaderFault}
-use Rattle.covering_file.specs.declared.fault.HeaderFault.TheVariants.{Words, Unstable, Depth}
+use Rattle.covering_file.specs.declared.fault.HeaderFault.TheVariants.{Version, Words, Unstable, Depth}
 use Rattle.covering_file.specs.declared.fault.HeadFault.{HeadFault}
 use Rattle.covering_file.specs.declared.fault.HeadFault.TheVariants.{Line, Read, Memory}
 use Rattle.covering_file.specs.declared.file_kind.FileKind.{FileKind}
-use Rattle.covering_file.specs.Header.{IsWordCount, IsDepth, first_line}
+use Rattle.covering_file.specs.Header.{Heading, IsVersion, IsVersionFor, IsWordCount, IsDepth, first_line}
 use Rattle.line_grammar.specs.declared.fault.LineFault.{LineFault}
 use Rattle.line_grammar.specs.declared.fault.LineFault.TheVariants as line
 use Rattle.line_grammar.specs.Faults.{Refusal}
@@ -30,11 +30,17 @@ pub record IsFirstUnstable (words : List (List ℕ)) (i : ℕ) : Type 0 where
 abbrev pub AreStable : List (List ℕ) → Type 0
 AreStable words = (i : ℕ) → IsListed words i → IsStable (word_at words i)
 
+-- the first condition on words and a depth that fails
+abbrev pub IsFaultIn : List (List ℕ) → ℕ → HeaderFault → Type 0
+IsFaultIn words depth Version = ⊥
+IsFaultIn words depth Words = ¬ (IsWordCount (length words))
+IsFaultIn words depth (Unstable i) = IsWordCount (length words) × IsFirstUnstable words i
+IsFaultIn words depth Depth = IsWordCount (length words) × AreStable words × ¬ (IsDepth depth)
+
 -- the first condition that fails, in the order of the variants
-abbrev pub IsFaultOf : List (List ℕ) → ℕ → HeaderFault → Type 0
-IsFaultOf words depth Words = ¬ (IsWordCount (length words))
-IsFaultOf words depth (Unstable i) = IsWordCount (length words) × IsFirstUnstable words i
-IsFaultOf words depth Depth = IsWordCount (length words) × AreStable words × ¬ (IsDepth depth)
+abbrev pub IsFaultOf : Heading → HeaderFault → Type 0
+IsFaultOf h Version = ¬ (IsVersionFor h.version (length h.region))
+IsFaultOf h fault = IsVersionFor h.version (length h.region) × IsFaultIn h.words h.depth fault
 
 -- the fault of a line, as that of a header
 abbrev pub head_of : LineFault → HeadFault
@@ -53,9 +59,13 @@ is_head_read (Line line reason) = false
 is_head_read Read = true
 is_head_read Memory = false
 
+-- the bytes begin with the first line of such a file, in some version
+abbrev pub BeginsFile : FileKind → List ℕ → Type 0
+BeginsFile kind bytes = (version : ℕ) × IsVersion version × BeginsWith bytes (first_line kind version)
+
 -- The input begins with the first line of a header. Nothing before it takes memory.
 abbrev pub BeginsHeader : FileKind → Option (List ℕ) → Type 0
-BeginsHeader kind input = (bytes : List ℕ) × MayBe input bytes × BeginsWith bytes (first_line kind)
+BeginsHeader kind input = (bytes : List ℕ) × MayBe input bytes × BeginsFile kind bytes
 
 -- Memory is wanted only where it does.
 abbrev pub WantsMemory : FileKind → Option (List ℕ) → HeadFault → Type 0

@@ -1,10 +1,12 @@
--- What a covering file or a job says before its tree: a polygon, stable words and a depth. And the lines that say it.
+-- What a covering file or a job says before its tree: a version, a region, stable words and a depth. And the lines that say it.
 -- The format and its limits are this program's own.
-use Rattle.std.specs.Prelude.{ℕ, ◌≤◌, List, [], ◌∷◌, ◌++◌, All, map, length, decimal, codes}
+use Rattle.std.specs.Prelude.{◌≡◌, ◌⊎◌, ℕ, zero, suc, ◌≤◌, List, [], ◌∷◌, ◌++◌, All, map, length, decimal, codes}
+use Rattle.std.specs.List.{flat_map}
 use Rattle.edge_words.specs.Word.{IsWord}
 use Rattle.edge_words.specs.Stable.{IsStable}
 use Rattle.edge_words.specs.Reading.{digits_of}
-use Rattle.rational_polygon.specs.Outline.{Outline, IsPolygon}
+use Rattle.rational_polygon.specs.Outline.{Outline}
+use Rattle.rational_polygon.specs.Region.{IsRegion, grid_of}
 use Rattle.rational_polygon.specs.declared.TheConstants.{MAX_LEVEL}
 use Rattle.covering_file.specs.declared.TheConstants.{MAX_WORDS}
 use Rattle.covering_file.specs.declared.file_kind.FileKind.{FileKind}
@@ -12,9 +14,17 @@ use Rattle.covering_file.specs.declared.file_kind.FileKind.TheVariants.{Cover, J
 use Rattle.line_grammar.specs.Text.{two_fields, named_line, text_of}
 
 pub record Heading : Type 0 where
-  pub outline : Outline
+  pub version : ℕ
+  pub region : List Outline
   pub words : List (List ℕ)
   pub depth : ℕ
+
+abbrev pub IsVersion : ℕ → Type 0
+IsVersion version = (version ≡ 1) ⊎ (version ≡ 2)
+
+-- version 1 has one polygon, version 2 any region
+abbrev pub IsVersionFor : ℕ → ℕ → Type 0
+IsVersionFor version polygons = ((version ≡ 1) × (polygons ≡ 1)) ⊎ (version ≡ 2)
 
 pub record IsStableWord (w : List ℕ) : Type 0 where
   pub word : IsWord w
@@ -27,29 +37,40 @@ abbrev pub IsDepth : ℕ → Type 0
 IsDepth depth = depth ≤ MAX_LEVEL
 
 pub record IsHeading (h : Heading) : Type 0 where
-  pub polygon : IsPolygon h.outline
+  pub version : IsVersionFor h.version (length h.region)
+  pub region : IsRegion h.region
   pub word_count : IsWordCount (length h.words)
   pub stable : All IsStableWord h.words
   pub depth : IsDepth h.depth
 
 -- ---- the lines, without their newlines
 
-abbrev pub first_line : FileKind → List ℕ
-first_line Cover = codes "mcbcover 1"
-first_line Job = codes "mcbjob 1"
+-- what the file is, and its version
+abbrev pub first_line : FileKind → ℕ → List ℕ
+first_line Cover version = named_line (codes "mcbcover") version
+first_line Job version = named_line (codes "mcbjob") version
 
 -- the two numbers of a corner, in grid steps
 abbrev pub corner_line : ℕ × ℕ → List ℕ
 corner_line c = two_fields (decimal c.0) (decimal c.1)
 
-abbrev pub outline_lines : Outline → List (List ℕ)
-outline_lines o = named_line (codes "grid") o.grid ∷ named_line (codes "polygon") (length o.corners) ∷ map corner_line o.corners
+abbrev pub polygon_lines : Outline → List (List ℕ)
+polygon_lines o = named_line (codes "polygon") (length o.corners) ∷ map corner_line o.corners
+
+-- version 1 does not say that it has one polygon
+abbrev pub count_lines : ℕ → ℕ → List (List ℕ)
+count_lines (suc zero) polygons = []
+count_lines version polygons = named_line (codes "regions") polygons ∷ []
+
+abbrev pub region_lines : ℕ → List Outline → List (List ℕ)
+region_lines version region =
+    named_line (codes "grid") (grid_of region) ∷ count_lines version (length region) ++ flat_map polygon_lines region
 
 abbrev pub words_lines : List (List ℕ) → List (List ℕ)
 words_lines ws = named_line (codes "words") (length ws) ∷ map digits_of ws
 
 abbrev pub header_lines : FileKind → Heading → List (List ℕ)
-header_lines kind h = first_line kind ∷ outline_lines h.outline ++ words_lines h.words ++ named_line (codes "depth") h.depth ∷ []
+header_lines kind h = first_line kind h.version ∷ region_lines h.version h.region ++ words_lines h.words ++ named_line (codes "depth") h.depth ∷ []
 
 abbrev pub header_text : FileKind → Heading → List ℕ
 header_text kind h = text_of (header_lines kind h)

@@ -1,15 +1,17 @@
 -- The header of a covering file or a job, and a whole job, part by part.
-use Rattle.std.specs.Prelude.{ℕ, nat_lt, List, All, length, codes}
-use Rattle.rational_polygon.specs.declared.TheConstants.{MAX_GRID, MAX_LEVEL, MIN_CORNERS, MAX_CORNERS}
+use Rattle.std.specs.Prelude.{◌≡◌, ℕ, zero, suc, nat_lt, List, All, length, codes}
+use Rattle.rational_polygon.specs.declared.TheConstants.{MAX_GRID, MAX_LEVEL, MIN_CORNERS, MAX_CORNERS, MAX_POLYGONS}
 use Rattle.rational_polygon.specs.Outline.{Outline, IsPolygon}
-use Rattle.line_grammar.specs.declared.reason.Reason.TheVariants.{OtherLine, EndLine}
+use Rattle.rational_polygon.specs.Region.{IsRegion}
+use Rattle.line_grammar.specs.declared.reason.Reason.TheVariants.{EndLine}
 use Rattle.line_grammar.specs.Form.{whole_line, numbered_line}
-use Rattle.line_grammar.specs.Part.{Part, line_part, followed_by, in_turn, so_far, repeated, seen_as, whole_text}
+use Rattle.line_grammar.specs.Part.{Part, line_part, without_line, followed_by, in_turn, so_far, repeated, seen_as, whole_text}
 use Rattle.covering_file.specs.declared.TheConstants.{MAX_WORDS}
 use Rattle.covering_file.specs.declared.file_kind.FileKind.{FileKind}
 use Rattle.covering_file.specs.declared.file_kind.FileKind.TheVariants.{Job}
-use Rattle.covering_file.specs.CornerForms.{next_corner_form, word_form}
-use Rattle.covering_file.specs.Header.{Heading, IsHeading, IsStableWord, IsWordCount, first_line, outline_lines, words_lines, header_lines, job_lines}
+use Rattle.covering_file.specs.CornerForms.{first_form, next_corner_form, word_form}
+use Rattle.covering_file.specs.Header.{Heading, IsHeading, IsVersionFor, IsStableWord, IsWordCount}
+use Rattle.covering_file.specs.Header.{polygon_lines, region_lines, words_lines, header_lines, job_lines}
 
 -- a line with a name and a number
 abbrev pub named_part : List ℕ → ℕ → ℕ → Part ℕ
@@ -23,13 +25,34 @@ corners_so_far grid count = so_far (λ corners. nat_lt (length corners) count) (
 abbrev pub corners_part : ℕ → ℕ → Part (List (ℕ × ℕ))
 corners_part grid count = in_turn (λ corners. nat_lt (length corners) count) (λ corners. line_part (next_corner_form grid count corners))
 
--- the count of the corners, and the corners
-abbrev pub counted_corners : ℕ → Part (ℕ × List (ℕ × ℕ))
-counted_corners grid = followed_by (named_part (codes "polygon") MIN_CORNERS MAX_CORNERS) (corners_part grid)
+-- a polygon on this grid
+abbrev pub IsPolygonOn : ℕ → Outline → Type 0
+IsPolygonOn grid outline = IsPolygon outline × (outline.grid ≡ grid)
+
+abbrev pub polygon_part : ℕ → Part Outline
+polygon_part grid = seen_as (followed_by (named_part (codes "polygon") MIN_CORNERS MAX_CORNERS) (corners_part grid)) (IsPolygonOn grid) polygon_lines
+
+-- so many polygons on one grid
+abbrev pub polygons_part : ℕ → ℕ → Part (List Outline)
+polygons_part grid count = repeated count (polygon_part grid)
+
+-- how many polygons there are: in version 1 there is one, with no line for it
+abbrev pub count_part : ℕ → Part ℕ
+count_part (suc zero) = without_line 1
+count_part version = named_part (codes "regions") 1 MAX_POLYGONS
+
+-- the count of the polygons, and the polygons
+abbrev pub counted_polygons : ℕ → ℕ → Part (ℕ × List Outline)
+counted_polygons version grid = followed_by (count_part version) (polygons_part grid)
+
+-- a region that a file of this version may have
+abbrev pub IsRegionIn : ℕ → List Outline → Type 0
+IsRegionIn version region = IsVersionFor version (length region) × IsRegion region
 
 -- the grid before them
-abbrev pub polygon_part : Part Outline
-polygon_part = seen_as (followed_by (named_part (codes "grid") 1 MAX_GRID) counted_corners) IsPolygon outline_lines
+abbrev pub region_part : ℕ → Part (List Outline)
+region_part version =
+    seen_as (followed_by (named_part (codes "grid") 1 MAX_GRID) (counted_polygons version)) (IsRegionIn version) (region_lines version)
 
 -- so many stable words
 abbrev pub listed_part : ℕ → Part (List (List ℕ))
@@ -47,17 +70,17 @@ abbrev pub depth_part : Part ℕ
 depth_part = named_part (codes "depth") 0 MAX_LEVEL
 
 -- the words and then the depth
-abbrev pub after_polygon : Outline → Part (List (List ℕ) × ℕ)
-after_polygon _ = followed_by words_part (λ _. depth_part)
+abbrev pub after_region : List Outline → Part (List (List ℕ) × ℕ)
+after_region _ = followed_by words_part (λ _. depth_part)
 
--- the polygon before them
-abbrev pub after_first_line : Unit {0} → Part (Outline × (List (List ℕ) × ℕ))
-after_first_line _ = followed_by polygon_part after_polygon
+-- the region before them, as the version has it
+abbrev pub after_first_line : ℕ → Part (List Outline × (List (List ℕ) × ℕ))
+after_first_line version = followed_by (region_part version) after_region
 
--- the first line, the polygon, the words, and the depth
+-- the first line, the region, the words, and the depth
 abbrev pub header_part : FileKind → Part Heading
 header_part kind =
-    seen_as (followed_by (line_part (whole_line (first_line kind) OtherLine)) after_first_line) IsHeading (header_lines kind)
+    seen_as (followed_by (line_part (first_form kind)) after_first_line) IsHeading (header_lines kind)
 
 -- a header and the line `end`
 abbrev pub ended_header : Part Heading

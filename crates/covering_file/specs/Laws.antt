@@ -2,7 +2,7 @@
 use Rattle.std.specs.Prelude.{◌≡◌, ℕ, ◌↔◌, List, [], ◌∷◌, ◌++◌, All, length}
 use Rattle.rational_polygon.specs.Point.{Point}
 use Rattle.rational_polygon.specs.Square.{Square, unit_square, IsInBox}
-use Rattle.rational_polygon.specs.Outline.{IsInPolygon}
+use Rattle.rational_polygon.specs.Region.{IsInRegion}
 use Rattle.gradient_bounds.specs.Corridor.{HasCorridor}
 use Rattle.gradient_bounds.specs.Slacks.{Slacks}
 use Rattle.covering_file.specs.declared.file_kind.FileKind.{FileKind}
@@ -56,18 +56,18 @@ TreeIsOne = (s t : Tree) → preorder s ≡ preorder t → s ≡ t
 abbrev pub StandingIsDue : Type 0
 StandingIsDue = (t : Tree) (box : Square) (node : Node) → StandsAt unit_square t box node ↔ StandsIn (unit_square ∷ []) (preorder t) box node
 
--- where the tree of a file is sound, each point of the polygon lies in a box of a leaf that is shown
+-- where the tree of a file is sound, each point of the region lies in a box of a leaf that is shown
 abbrev pub SoundCovers : Type 0
-SoundCovers = (h : Heading) (t : Tree) → IsHeading h → IsSound h t → (p : Point) → IsInPolygon h.outline p
+SoundCovers = (h : Heading) (t : Tree) → IsHeading h → IsSound h t → (p : Point) → IsInRegion h.region p
     → (box : Square) × (i : ℕ) × StandsAt unit_square t box (Shown i) × IsInBox box p
 
 -- and has a corridor of the listed word for which it is shown
 abbrev pub SoundIsCovered : Type 0
 SoundIsCovered = (h : Heading) (t : Tree) → IsHeading h → IsSound h t → IsCovered h
 
--- where a polygon is covered, every point of it has a listed word with a corridor there
+-- where a region is covered, every point of it has a listed word with a corridor there
 abbrev pub CoveredEverywhere : Type 0
-CoveredEverywhere = (h : Heading) → IsHeading h → IsCovered h → (p : Point) → IsInPolygon h.outline p
+CoveredEverywhere = (h : Heading) → IsHeading h → IsCovered h → (p : Point) → IsInRegion h.region p
     → (i : ℕ) × IsListed h.words i × HasCorridor (word_at h.words i) p.x p.y
 
 abbrev pub SureIsSound : Type 0
@@ -84,7 +84,7 @@ FileIsOne = (g h : Heading) (s t : Tree) (x y : List ℕ) → IsHeading g → Is
 
 -- ---- verdicts
 
--- an accepted file is whole, and its polygon is covered
+-- an accepted file is whole, and its region is covered
 abbrev pub AcceptedIsCovering : Type 0
 AcceptedIsCovering = (limit nodes words : ℕ) (bytes : List ℕ) → IsAccepted limit nodes words bytes → IsCovering limit bytes
 

@@ -1,7 +1,7 @@
 -- Which trees are sound: what each node claims of its box is true.
 use Rattle.std.specs.Prelude.{◌≡◌, ◌<◌}
 use Rattle.rational_polygon.specs.Square.{Square, unit_square}
-use Rattle.rational_polygon.specs.Apart.{IsApart}
+use Rattle.rational_polygon.specs.Region.{IsApartFromRegion}
 use Rattle.gradient_bounds.specs.Clear.{IsClear}
 use Rattle.gradient_bounds.specs.Slacks.{Slacks}
 use Rattle.gradient_bounds.specs.Slacks as slacks
@@ -13,11 +13,11 @@ use Rattle.covering_file.specs.Header.{Heading}
 use Rattle.covering_file.specs.Faults.{word_at, IsListed}
 use Rattle.covering_file.specs.Tree.{Tree, StandsAt}
 
--- The node may stand at the box: a split above the full depth, a box apart from the polygon, a listed word that is clear on the
+-- The node may stand at the box: a split above the full depth, a box apart from the region, a listed word that is clear on the
 -- box with these slacks. An uncovered box has nothing to show.
 abbrev pub IsSoundNode : Heading → Slacks → Square → Node → Type 0
 IsSoundNode h e box Split = box.level < h.depth
-IsSoundNode h e box Outside = IsApart box h.outline
+IsSoundNode h e box Outside = IsApartFromRegion box h.region
 IsSoundNode h e box (Shown i) = IsListed h.words i × IsClear (word_at h.words i) box e.gradient
 IsSoundNode h e box Uncovered = ⊥
 

@@ -6,9 +6,12 @@ use line_grammar::{LineFault, Reason};
 use std::alloc::AllocError as OutOfMemory;
 use thiserror::Error;
 
-/// Why a polygon, words and a depth make no header. Words are counted from 1.
+/// Why a version, a region, words and a depth make no header. Words are counted from 1.
 #[derive(Clone, Copy, Debug, PartialEq, Eq, Error)]
 pub enum HeaderFault {
+    /// There is no such version, or it has one polygon and the region another number of them.
+    #[error("no such version has such a region")]
+    Version,
     /// There is no word, or there are more than 32.
     #[error("there are not 1 to 32 words")]
     Words,

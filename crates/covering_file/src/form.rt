@@ -1,15 +1,23 @@
-//! The lines of corners, of words and of nodes.
-ghost use Rattle.std.specs.Prelude.{◌≤◌, ◌↔◌, IsTrue};
+//! The first line, and the lines of corners, of words and of nodes.
+ghost use Rattle.std.specs.Prelude.{◌≡◌, ◌≤◌, ◌↔◌, IsTrue};
 ghost use Rattle.rational_polygon.specs.Outline.{IsInside};
-ghost use Rattle.covering_file.specs.CornerForms.{corner_form, word_form};
+ghost use Rattle.covering_file.specs.CornerForms.{first_form, corner_form, word_form};
 ghost use Rattle.covering_file.specs.FilePart.{node_form};
+ghost use Rattle.covering_file.specs.Header.{IsVersion};
+ghost use Rattle.covering_file.specs.Header as header;
 
-use crate::{Node, Reason, read_node};
+use crate::{FileKind, Node, Reason, read_node};
 use edge_words::Word;
 use line_grammar::{Form, two_fields};
 use rat_core::read_decimal;
 use rational_polygon::MAX_GRID;
 use std::alloc::Global;
+
+/// The first line of such a file, which says its version.
+#[derive(Clone, Copy)]
+pub(crate) struct FirstLine {
+    pub kind: FileKind,
+}
 
 /// Two numbers, which are a corner inside the triangle of the grid.
 #[derive(Clone, Copy)]
@@ -27,6 +35,35 @@ pub(crate) struct StableWord {
 #[derive(Clone, Copy, Debug)]
 pub struct NodeLine {
     pub words: u32,
+}
+
+impl Form for FirstLine {
+    type Value = u8;
+
+    ghost form = { λ form. first_form form.kind };
+
+    fn read(&self, line: &[u8]) -> Result<u8, Reason> {
+        if line == first_line(self.kind, 1) {
+            Ok(1)
+        } else if line == first_line(self.kind, 2) {
+            Ok(2)
+        } else {
+            Err(Reason::OtherLine)
+        }
+    }
+}
+
+// The first line of such a file in this version.
+fn first_line(kind: FileKind, version: u8) -> &'static [u8]
+    requires { IsVersion version }
+    ensures { result.now ≡ header.first_line kind version }
+{
+    match (kind, version) {
+        (FileKind::Cover, 1) => b"mcbcover 1",
+        (FileKind::Cover, _) => b"mcbcover 2",
+        (FileKind::Job, 1) => b"mcbjob 1",
+        (FileKind::Job, _) => b"mcbjob 2",
+    }
 }
 
 impl Form for Corner {

@@ -1,19 +1,21 @@
 ghost use Rattle.std.specs.Prelude.{◌≡◌, ◌≤◌, ◌↔◌, IsOk, IfOk, OnOk, IfErr, Err, MatchOption, IsTrue, All, length};
 ghost use Rattle.edge_words.specs.Stable.{IsStable};
 ghost use Rattle.edge_words.specs.Word.{IsWord};
-ghost use Rattle.covering_file.specs.Header.{IsStableWord, IsWordCount, IsDepth, IsHeading};
-ghost use Rattle.covering_file.specs.Faults.{IsFirstUnstable, IsFaultOf};
+ghost use Rattle.covering_file.specs.Header.{IsVersionFor, IsStableWord, IsWordCount, IsDepth, IsHeading};
+ghost use Rattle.covering_file.specs.Faults.{IsFirstUnstable, IsFaultIn, IsFaultOf};
 ghost use Rattle.covering_file.specs.declared.fault.HeaderFault.{HeaderFault};
 
 use crate::{HeaderFault, MAX_WORDS};
 use edge_words::Word;
-use rational_polygon::{MAX_LEVEL, Polygon};
+use rational_polygon::{MAX_LEVEL, Region};
 use std::marker::Model;
 
-/// A polygon, 1 to 32 stable words and a depth from 0 to 20: what a covering is of, what it may use, and how deep its tree may be.
+/// A region, 1 to 32 stable words and a depth from 0 to 20: what a covering is of, what it may use, and how deep its tree may be.
+/// And the version of the format in which this is said: version 1 has one polygon, version 2 any region.
 #[derive(Debug, Drop)]
 pub struct Header {
-    polygon: Polygon,
+    version: u8,
+    region: Region,
     words: Vec<Word>,
     depth: u32,
 }
@@ -23,23 +25,31 @@ impl Model for Header {
 
     ghost Value = { Heading };
 
-    ghost view = { λ h. record { outline = h.polygon; words = h.words.items; depth = h.depth } };
+    ghost view = { λ h. record { version = h.version; region = h.region; words = h.words.items; depth = h.depth } };
 
-    ghost invariant = { λ h. IsHeading (record { outline = h.polygon; words = h.words.items; depth = h.depth }) };
+    ghost invariant = { λ h. IsHeading (record { version = h.version; region = h.region; words = h.words.items; depth = h.depth }) };
 }
 
 impl Header {
     /// The header with these parts. It keeps them; where they make no header, they are dropped. It takes no memory.
-    pub fn new(polygon: Polygon, words: Vec<Word>, depth: u32) -> Result<Header, HeaderFault>
-        ensures heading { IsOk result ↔ IsHeading (record { outline = polygon; words = words.items; depth = depth }) }
-        ensures kept { IfOk result (λ header. header ≡ record { outline = polygon; words = words.items; depth = depth }) }
-        ensures refused { (fault : HeaderFault) → (result ≡ Err fault) ↔ IsFaultOf words.items depth fault }
+    pub fn new(
+        version: u8,
+        region: Region,
+        words: Vec<Word>,
+        depth: u32,
+    ) -> Result<Header, HeaderFault>
+        ensures heading { IsOk result ↔ IsHeading (record { version = version; region = region; words = words.items; depth = depth }) }
+        ensures kept { IfOk result (λ header. header ≡ record { version = version; region = region; words = words.items; depth = depth }) }
+        ensures refused { (fault : HeaderFault) → (result ≡ Err fault)
+            ↔ IsFaultOf (record { version = version; region = region; words = words.items; depth = depth }) fault }
     {
-        // What it answers tells the check that they are those of a polygon.
-        let _corners = polygon.corners();
+        if !is_version_for(version, region.polygons().len()) {
+            return Err(HeaderFault::Version);
+        }
         match check_words(words.as_slice(), depth) {
             Ok(()) => Ok(Header {
-                polygon,
+                version,
+                region,
                 words,
                 depth,
             }),
@@ -47,12 +57,20 @@ impl Header {
         }
     }
 
-    /// The polygon.
-    pub fn polygon(&self) -> &Polygon
-        ensures value { result.now ≡ self.now.outline }
+    /// The version of the format, 1 or 2.
+    pub fn version(&self) -> u8
+        ensures value { result ≡ self.now.version }
         ensures is_heading { IsHeading self.now }
     {
-        &self.polygon
+        self.version
+    }
+
+    /// The region.
+    pub fn region(&self) -> &Region
+        ensures value { result.now ≡ self.now.region }
+        ensures is_heading { IsHeading self.now }
+    {
+        &self.region
     }
 
     /// The words, each stable, counted from 1 in a file.
@@ -72,10 +90,21 @@ impl Header {
     }
 }
 
+// Whether a file of this version may have so many polygons.
+fn is_version_for(version: u8, polygons: usize) -> bool
+    ensures { IsTrue result ↔ IsVersionFor version polygons }
+{
+    match version {
+        1 => polygons == 1,
+        2 => true,
+        _ => false,
+    }
+}
+
 // Passes the words and the depth of a header. Else the first condition that fails.
 fn check_words(words: &[Word], depth: u32) -> Result<(), HeaderFault>
     ensures passed { OnOk result (IsWordCount (length words.now) × All IsStableWord words.now × IsDepth depth) }
-    ensures refused { IfErr result (IsFaultOf words.now depth) }
+    ensures refused { IfErr result (IsFaultIn words.now depth) }
 {
     if !(1..=MAX_WORDS as usize).contains(&words.len()) {
         return Err(HeaderFault::Words);

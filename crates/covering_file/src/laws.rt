@@ -47,17 +47,17 @@ pub fn standing_is_due()
     ensures { StandingIsDue }
 {}
 
-/// Where the tree of a file is sound, each point of the polygon lies in a box of a leaf that is shown.
+/// Where the tree of a file is sound, each point of the region lies in a box of a leaf that is shown.
 pub fn sound_covers()
     ensures { SoundCovers }
 {}
 
-/// Where the tree of a file is sound, every point of the polygon that is a triangle has a corridor of a listed word.
+/// Where the tree of a file is sound, every point of the region that is a triangle has a corridor of a listed word.
 pub fn sound_is_covered()
     ensures { SoundIsCovered }
 {}
 
-/// Where a polygon is covered, every point of it has a corridor of a listed word, since every point of it is a triangle.
+/// Where a region is covered, every point of it has a corridor of a listed word, since every point of it is a triangle.
 pub fn covered_everywhere()
     ensures { CoveredEverywhere }
 {}
@@ -77,7 +77,7 @@ pub fn file_is_one()
     ensures { FileIsOne }
 {}
 
-/// An accepted file is whole, and its polygon is covered.
+/// An accepted file is whole, and its region is covered.
 pub fn accepted_is_covering()
     ensures { AcceptedIsCovering }
 {}

@@ -1,8 +1,8 @@
-//! The covering file, both ways: a polygon, stable words, and a quadtree whose leaves are apart from the polygon, shown for
+//! The covering file, both ways: a region, stable words, and a quadtree whose leaves are apart from the region, shown for
 //! one word, or uncovered.
 //!
 //! The one contract: what is read is what the bytes say, what is written is the text of what was given, and of what is no
-//! file the first offending line is named, with its least reason. A sound tree covers its polygon.
+//! file the first offending line is named, with its least reason. A sound tree covers its region.
 #![tactic(auto)]
 
 mod fault;
@@ -14,6 +14,7 @@ pub mod laws;
 mod node;
 mod outline;
 mod reading;
+mod region;
 mod walk;
 mod words;
 mod writing;

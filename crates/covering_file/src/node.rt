@@ -11,7 +11,7 @@ use rat_core::read_decimal;
 pub enum Node {
     /// Its four children follow.
     Split,
-    /// It is apart from the polygon.
+    /// It is apart from the region.
     Outside,
     /// The corridor of the listed word of this number, counted from 1, is open on it.
     Shown(u32),

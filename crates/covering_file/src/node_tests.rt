@@ -3,7 +3,7 @@ use crate::{
 };
 use edge_words::Word;
 use mcb_ends::{Failed, LineReader, MemSink, MemSource};
-use rational_polygon::Polygon;
+use rational_polygon::{Polygon, Region};
 use std::alloc::{AllocError, Global};
 use std::test::Fail;
 
@@ -58,7 +58,9 @@ fn header(alloc: Global) -> Result<Header, Fail> {
     let corners = [(127, 127), (128, 127), (127, 128)].to_vec(alloc)?;
     let mut words = Vec::new(alloc);
     words.push(Word::read(alloc, b"123123")?)?;
-    Ok(Header::new(Polygon::new(384, corners)?, words, 7)?)
+    let polygon = Polygon::new(384, corners)?;
+    let region = Region::new(vec![in alloc; polygon]?)?;
+    Ok(Header::new(1, region, words, 7)?)
 }
 
 #[test]
@@ -157,23 +159,26 @@ fn reads_what_was_written(rt: HostRuntime) -> Result<(), Fail> {
     let alloc = rt.alloc();
     let triangle = [(127, 127), (128, 127), (127, 128)];
     let square = [(31, 15), (33, 15), (33, 17), (31, 17)];
-    let rows: [(u32, &[(u32, u32)], &[&[u8]], u32); 3] = [
-        (384, &triangle, &[b"123123"], 7),
-        (64, &square, &[b"123123", b"1212312123"], 0),
-        (1_048_576, &triangle, &[b"1212312123", b"1212312123"], 20),
+    let rows: [(u8, u32, &[(u32, u32)], &[&[u8]], u32); 3] = [
+        (1, 384, &triangle, &[b"123123"], 7),
+        (2, 64, &square, &[b"123123", b"1212312123"], 0),
+        (2, 1_048_576, &triangle, &[b"1212312123", b"1212312123"], 20),
     ];
-    for (grid, corners, spelled, depth) in rows {
+    for (version, grid, corners, spelled, depth) in rows {
         let mut words = Vec::new(alloc);
         for digits in spelled {
             words.push(Word::read(alloc, digits)?)?;
         }
-        let header = Header::new(Polygon::new(grid, corners.to_vec(alloc)?)?, words, depth)?;
+        let polygon = Polygon::new(grid, corners.to_vec(alloc)?)?;
+        let region = Region::new(vec![in alloc; polygon]?)?;
+        let header = Header::new(version, region, words, depth)?;
         let mut out = sink(alloc, 1000)?;
         assert_eq!(rt; write_header(&header, FileKind::Cover, &mut out), Ok(()));
         let mut src = MemSource::new(out.bytes().to_vec(alloc)?, 16, Vec::new(alloc));
         let read = read_header(alloc, FileKind::Cover, &mut LineReader::new(), &mut src)?;
-        assert_eq!(rt; read.polygon().grid(), grid);
-        assert_eq!(rt; read.polygon().corners(), corners);
+        assert_eq!(rt; read.version(), version);
+        assert_eq!(rt; read.region().polygons()[0].grid(), grid);
+        assert_eq!(rt; read.region().polygons()[0].corners(), corners);
         assert_eq!(rt; read.words().len(), spelled.len());
         assert_eq!(rt; read.depth(), depth);
         let mut again = sink(alloc, 1000)?;

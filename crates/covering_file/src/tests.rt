@@ -1,7 +1,7 @@
 use crate::{FileKind, HeadFault, Header, HeaderFault, Reason, read_header, read_job};
 use edge_words::Word;
 use mcb_ends::{Line, LineReader, MemSource};
-use rational_polygon::Polygon;
+use rational_polygon::{Polygon, Region};
 use std::alloc::{AllocError, Global};
 use std::test::Fail;
 
@@ -36,8 +36,10 @@ fn reads_a_header(rt: HostRuntime) -> Result<(), Fail> {
     let mut src = told(alloc, COVER)?;
     let mut lines = LineReader::new();
     let header = read_header(alloc, FileKind::Cover, &mut lines, &mut src)?;
-    assert_eq!(rt; header.polygon().grid(), 384);
-    assert_eq!(rt; header.polygon().corners(), CORNERS.as_slice());
+    assert_eq!(rt; header.region().polygons()[0].grid(), 384);
+    assert_eq!(rt; header.region().polygons()[0].corners(), CORNERS.as_slice());
+    assert_eq!(rt; header.version(), 1);
+    assert_eq!(rt; header.region().polygons().len(), 1);
     assert_eq!(rt; header.words().len(), 1);
     assert_eq!(rt; header.words()[0].letters(), [1, 2, 3, 1, 2, 3].as_slice());
     assert_eq!(rt; header.depth(), 7);
@@ -52,6 +54,9 @@ fn refuses_first_lines_grids_and_counts(rt: HostRuntime) -> Result<(), Fail> {
         ("", 1, Reason::Ends),
         ("mcbcover 1", 1, Reason::Ends),
         ("mcbcover 01\n", 1, Reason::OtherLine),
+        ("mcbcover 0\n", 1, Reason::OtherLine),
+        ("mcbcover 3\n", 1, Reason::OtherLine),
+        ("mcbcover 12\n", 1, Reason::OtherLine),
         ("mcbjob 1\n", 1, Reason::OtherLine),
         ("mcbcover 1\n", 2, Reason::Ends),
         ("mcbcover 1\ngrid 384", 2, Reason::Ends),
@@ -64,6 +69,15 @@ fn refuses_first_lines_grids_and_counts(rt: HostRuntime) -> Result<(), Fail> {
         ("mcbcover 1\ngrid 0\n", 2, Reason::Number),
         ("mcbcover 1\ngrid 1048577\n", 2, Reason::Number),
         ("mcbcover 1\ngrid 384\npolygon 2\n", 3, Reason::Number),
+        ("mcbcover 1\ngrid 384\nregions 1\n", 3, Reason::OtherLine),
+        ("mcbcover 2\ngrid 384\npolygon 3\n", 3, Reason::OtherLine),
+        ("mcbcover 2\ngrid 384\nregions 0\n", 3, Reason::Number),
+        ("mcbcover 2\ngrid 384\nregions 9\n", 3, Reason::Number),
+        (
+            "mcbcover 2\ngrid 384\nregions 2\nwords 1\n",
+            4,
+            Reason::OtherLine,
+        ),
         ("mcbcover 1\ngrid 384\npolygon 17\n", 3, Reason::Number),
     ];
     for (text, line, reason) in rows {
@@ -188,17 +202,36 @@ fn reads_in_pieces_and_says_where_a_read_failed(rt: HostRuntime) -> Result<(), F
     Ok(())
 }
 
+// A region of so many polygons, all the same.
+fn region_of(alloc: Global, count: usize) -> Result<Region, Fail> {
+    let mut polygons = Vec::new(alloc);
+    for _ in 0..count {
+        polygons.push(Polygon::new(384, CORNERS.to_vec(alloc)?)?)?;
+    }
+    Ok(Region::new(polygons)?)
+}
+
 fn made(
     alloc: Global,
     spelled: &[[u8; 6]],
     depth: u32,
 ) -> Result<Result<Header, HeaderFault>, Fail> {
-    let polygon = Polygon::new(384, CORNERS.to_vec(alloc)?)?;
+    made_in(alloc, 1, 1, spelled, depth)
+}
+
+fn made_in(
+    alloc: Global,
+    version: u8,
+    polygons: usize,
+    spelled: &[[u8; 6]],
+    depth: u32,
+) -> Result<Result<Header, HeaderFault>, Fail> {
+    let region = region_of(alloc, polygons)?;
     let mut words = Vec::new(alloc);
     for digits in spelled {
         words.push(Word::read(alloc, digits)?)?;
     }
-    Ok(Header::new(polygon, words, depth))
+    Ok(Header::new(version, region, words, depth))
 }
 
 #[test]
@@ -214,5 +247,56 @@ fn makes_headers(rt: HostRuntime) -> Result<(), Fail> {
         made(alloc, &[*b"123123"], 21)?.err(),
         Some(HeaderFault::Depth)
     );
+    Ok(())
+}
+
+#[test]
+fn a_version_has_its_regions(rt: HostRuntime) -> Result<(), Fail> {
+    let alloc = rt.alloc();
+    let rows = [
+        (1, 1, None),
+        (1, 2, Some(HeaderFault::Version)),
+        (2, 1, None),
+        (2, 8, None),
+        (0, 1, Some(HeaderFault::Version)),
+        (3, 1, Some(HeaderFault::Version)),
+    ];
+    for (version, polygons, fault) in rows {
+        assert_eq!(rt;
+            made_in(alloc, version, polygons, &[*b"123123"], 20)?.err(),
+            fault
+        );
+    }
+    assert_eq!(rt;
+        made_in(alloc, 1, 2, &[], 21)?.err(),
+        Some(HeaderFault::Version)
+    );
+    Ok(())
+}
+
+// In the second polygon a corner is outside, or the corners run clockwise.
+#[test]
+fn judges_each_polygon_at_its_lines(rt: HostRuntime) -> Result<(), Fail> {
+    let rows = [
+        ("128 127\n127 128\n128 128\n", 11, Reason::NotConvex),
+        ("128 127\n0 127\n", 10, Reason::CornerOutside),
+        (
+            "128 127\n128 128\n127 128\npolygon 3\n",
+            12,
+            Reason::OtherLine,
+        ),
+    ];
+    for (second, line, reason) in rows {
+        let mut text = String::from_str(
+            rt.alloc(),
+            "mcbcover 2\ngrid 384\nregions 2\npolygon 3\n127 127\n128 127\n127 128\npolygon 3\n",
+        )?;
+        text.push_str(second)?;
+        assert_eq!(rt;
+            cover_fault(rt.alloc(), text.as_str())?,
+            Some(HeadFault::Line { line, reason }),
+            "{second:?}"
+        );
+    }
     Ok(())
 }

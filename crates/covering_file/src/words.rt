@@ -18,7 +18,7 @@ pub(crate) fn read_words<S: Source>(
     lines: &mut LineReader,
     src: &mut S,
 ) -> Result<Vec<Word>, HeadFault>
-    requires few { lines.old.number ≤ 2 ^ 31 + 19 }
+    requires few { lines.old.number ≤ 2 ^ 31 + 200 }
     requires reading { lines.old.is_done ≡ false }
     ensures words { IfOk result (λ words. TakesPart words_part lines.old lines.new (S.left src.old) (S.left src.new) words.items) }
     ensures fails { IfErr result (λ fault. FailsPart words_part.grammar lines.old lines.new
@@ -45,7 +45,7 @@ fn read_listed<S: Source>(
     src: &mut S,
 ) -> Result<Vec<Word>, HeadFault>
     requires count { count ≤ MAX_WORDS }
-    requires few { lines.old.number ≤ 2 ^ 31 + 20 }
+    requires few { lines.old.number ≤ 2 ^ 31 + 201 }
     requires reading { lines.old.is_done ≡ false }
     ensures words { IfOk result (λ words. TakesPart (listed_part count) lines.old lines.new (S.left src.old) (S.left src.new) words.items) }
     ensures fails { IfErr result (λ fault. FailsPart (listed_part count).grammar lines.old lines.new

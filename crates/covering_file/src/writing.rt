@@ -1,15 +1,17 @@
 ghost use Rattle.std.specs.Prelude.{◌≡◌, ◌≤◌, length, map};
+ghost use Rattle.std.specs.List.{flat_map};
 ghost use Rattle.mcb_ends.specs.Bytes.{Writes};
 ghost use Rattle.mcb_ends.specs.Causes.{HasCause};
 ghost use Rattle.edge_words.specs.Reading.{digits_of};
-ghost use Rattle.covering_file.specs.Header.{corner_line, outline_lines, words_lines, first_line, header_text};
+ghost use Rattle.covering_file.specs.Header.{corner_line, polygon_lines, count_lines, region_lines, words_lines, first_line, header_text};
+ghost use Rattle.covering_file.specs.Header.{IsVersion};
 ghost use Rattle.covering_file.specs.Node.{node_line, end_line};
 ghost use Rattle.line_grammar.specs.Text.{named_line, text_of, with_newline};
 
 use crate::{FileKind, Header, MAX_WORDS, Node};
 use edge_words::Word;
 use mcb_ends::{Decimal, Failed, Sink, put, put_all};
-use rational_polygon::Polygon;
+use rational_polygon::{Polygon, Region};
 
 /// Writes the lines of a header, from the first to the depth, or a prefix of them and fails. It takes no memory.
 pub fn write_header<K: Sink>(header: &Header, kind: FileKind, out: &mut K) -> Result<(), Failed>
@@ -17,8 +19,9 @@ pub fn write_header<K: Sink>(header: &Header, kind: FileKind, out: &mut K) -> Re
     ensures room { K.room out.new ≡ K.room out.old }
     ensures cause { HasCause (K.faults out.old) (K.faults out.new) result }
 {
-    write_first(kind, out)?;
-    write_outline(header.polygon(), out)?;
+    let version = header.version();
+    write_first(kind, version, out)?;
+    write_region(version, header.region(), out)?;
     write_words(header.words(), out)?;
     write_named(b"depth", header.depth(), out)
 }
@@ -49,14 +52,14 @@ pub fn write_end<K: Sink>(uncovered: u32, out: &mut K) -> Result<(), Failed>
     }
 }
 
-fn write_first<K: Sink>(kind: FileKind, out: &mut K) -> Result<(), Failed>
-    ensures text { Writes (K.written out.old) (K.written out.new) result (with_newline (first_line kind)) }
+fn write_first<K: Sink>(kind: FileKind, version: u8, out: &mut K) -> Result<(), Failed>
+    ensures text { Writes (K.written out.old) (K.written out.new) result (with_newline (first_line kind version)) }
     ensures room { K.room out.new ≡ K.room out.old }
     ensures cause { HasCause (K.faults out.old) (K.faults out.new) result }
 {
     match kind {
-        FileKind::Cover => put(out, b"mcbcover 1\n"),
-        FileKind::Job => put(out, b"mcbjob 1\n"),
+        FileKind::Cover => write_named(b"mcbcover", u32::from(version), out),
+        FileKind::Job => write_named(b"mcbjob", u32::from(version), out),
     }
 }
 
@@ -70,13 +73,48 @@ fn write_named<K: Sink>(name: &[u8], number: u32, out: &mut K) -> Result<(), Fai
     put_all(out, &[name, b" ", digits.digits(), b"\n"])
 }
 
-fn write_outline<K: Sink>(polygon: &Polygon, out: &mut K) -> Result<(), Failed>
-    ensures text { Writes (K.written out.old) (K.written out.new) result (text_of (outline_lines polygon.now)) }
+fn write_region<K: Sink>(version: u8, region: &Region, out: &mut K) -> Result<(), Failed>
+    requires { IsVersion version }
+    ensures text { Writes (K.written out.old) (K.written out.new) result (text_of (region_lines version region.now)) }
+    ensures room { K.room out.new ≡ K.room out.old }
+    ensures cause { HasCause (K.faults out.old) (K.faults out.new) result }
+{
+    let polygons = region.polygons();
+    write_named(b"grid", polygons[0].grid(), out)?;
+    write_count(version, polygons.len() as u32, out)?;
+    write_polygons(polygons, out)
+}
+
+// Version 1 does not say that it has one polygon.
+fn write_count<K: Sink>(version: u8, polygons: u32, out: &mut K) -> Result<(), Failed>
+    requires { IsVersion version }
+    ensures text { Writes (K.written out.old) (K.written out.new) result (text_of (count_lines version polygons)) }
+    ensures room { K.room out.new ≡ K.room out.old }
+    ensures cause { HasCause (K.faults out.old) (K.faults out.new) result }
+{
+    match version {
+        1 => Ok(()),
+        _ => write_named(b"regions", polygons, out),
+    }
+}
+
+fn write_polygons<K: Sink>(polygons: &[Polygon], out: &mut K) -> Result<(), Failed>
+    ensures text { Writes (K.written out.old) (K.written out.new) result (text_of (flat_map polygon_lines polygons.now)) }
+    ensures room { K.room out.new ≡ K.room out.old }
+    ensures cause { HasCause (K.faults out.old) (K.faults out.new) result }
+{
+    for polygon in polygons {
+        write_polygon(polygon, out)?;
+    }
+    Ok(())
+}
+
+fn write_polygon<K: Sink>(polygon: &Polygon, out: &mut K) -> Result<(), Failed>
+    ensures text { Writes (K.written out.old) (K.written out.new) result (text_of (polygon_lines polygon.now)) }
     ensures room { K.room out.new ≡ K.room out.old }
     ensures cause { HasCause (K.faults out.old) (K.faults out.new) result }
 {
     let corners = polygon.corners();
-    write_named(b"grid", polygon.grid(), out)?;
     write_named(b"polygon", corners.len() as u32, out)?;
     write_corners(corners, out)
 }

@@ -1,6 +1,7 @@
 -- So many parts in turn: how many values are said, and what holds of each.
 use Rattle.std.proofs.Common.{◌≡◌, inl, inr, ℕ, ◌≤◌, ◌<◌, Bool, true, false, nat_lt, List, [], ◌∷◌, ◌++◌, length, map, All}
 use Rattle.std.proofs.Common.{refl, sym, ap, ◌∙◌, subst, arith, length-append, append_assoc, append-nil}
+use Rattle.std.specs.List.{flat_map}
 use Rattle.std.proofs.lemmas.Bool.{lt-ltb, le-ltb, cases_lt}
 use Rattle.std.proofs.lemmas.List.Elements.{All-nil, All-cons}
 use Rattle.std.proofs.Math.Seq.{get_or-append_seam}
@@ -13,6 +14,14 @@ lines_of_each part_after line_of is before [] = refl
 lines_of_each part_after line_of is before (v ∷ values) =
     ap (λ (ls : List (List ℕ)). ls ++ lines_in_turn part_after (before ++ v ∷ []) values) (is before v)
     ∙ ap (λ (ls : List (List ℕ)). line_of v ∷ ls) (lines_of_each part_after line_of is (before ++ v ∷ []) values)
+
+-- the lines of parts whose lines do not depend on what was said
+pub lines_of_all : {V : Type 0} (part_after : List V → Part V) (lines_of : V → List (List ℕ)) → ((l : List V) (v : V) → (part_after l).lines_of v ≡ lines_of v)
+    → (before values : List V) → lines_in_turn part_after before values ≡ flat_map lines_of values
+lines_of_all part_after lines_of is before [] = refl
+lines_of_all part_after lines_of is before (v ∷ values) =
+    ap (λ (ls : List (List ℕ)). ls ++ lines_in_turn part_after (before ++ v ∷ []) values) (is before v)
+    ∙ ap (λ (ls : List (List ℕ)). lines_of v ++ ls) (lines_of_all part_after lines_of is (before ++ v ∷ []) values)
 
 -- what holds of each value that may be said
 pub said_each : {V : Type 0} (is_due : List V → Bool) (part_after : List V → Part V) (P : V → Type 0) → ((l : List V) (v : V) → (part_after l).Says v → P v)

@@ -7,7 +7,7 @@ use Rattle.line_grammar.specs.declared.reason.Reason.TheVariants as reason
 use Rattle.line_grammar.specs.Form.{LineForm, IsForm}
 use Rattle.line_grammar.specs.Laws.{ValueIsOne, NeverOffends, OffenceIsOne}
 use Rattle.line_grammar.specs.Offence.{IsFirstOffence, IsLeast, HaveReason, LackReason}
-use Rattle.line_grammar.specs.Part.{Part, line_part, followed_by, InFirst, InSecond, in_turn, AreSaid, lines_in_turn}
+use Rattle.line_grammar.specs.Part.{Part, line_part, without_line, followed_by, InFirst, InSecond, in_turn, AreSaid, lines_in_turn}
 use Rattle.line_grammar.specs.Part.{end_of_text, HasMore, seen_as, whole_text}
 use Rattle.line_grammar.specs.Text.{text_of, BeginsWith}
 use Rattle.line_grammar.proofs.FrontLines.{no_reason, text_of-after, text_of_one}
@@ -40,6 +40,17 @@ line_offence_is_one form bytes line other r s p q =
     let here = subst (λ (xs : List ℕ). IsLeast (HaveReason has xs) (LackReason lacks xs) r) (sym p.text) p.least in
     let there = subst (λ (xs : List ℕ). IsLeast (HaveReason has xs) (LackReason lacks xs) s) (sym q.text) q.least in
     (p.number ∙ sym q.number, least_is_one (HaveReason has bytes) (LackReason lacks bytes) (bytes_apart has bytes) r s here there)
+
+-- ---- no line
+
+pub without_is_one : {V : Type 0} (value : V) → ValueIsOne (without_line value)
+without_is_one value v w x y p q same = (p ∙ sym q, same)
+
+pub without_never : {V : Type 0} (value : V) (Sure : V → Type 0) (rest : List ℕ) → NeverOffends (without_line value) Sure rest
+without_never value Sure rest v line r says sure first = first.reached
+
+pub without_offence_is_one : {V : Type 0} (value : V) → OffenceIsOne (without_line value).grammar
+without_offence_is_one value bytes line other r s p q = absurd p.reached
 
 -- ---- the end of the text
 

@@ -7,7 +7,7 @@ use Rattle.line_grammar.specs.Faults.{Refusal}
 use Rattle.line_grammar.specs.Input.{MayBe}
 use Rattle.line_grammar.specs.Offence.{Grammar, IsFirstOffence}
 use Rattle.line_grammar.specs.Part.{Part, followed_by, InFirst, InSecond, in_turn, so_far, AreSaid, lines_in_turn}
-use Rattle.line_grammar.specs.Part.{end_of_text, seen_as, whole_text}
+use Rattle.line_grammar.specs.Part.{end_of_text, seen_as, whole_text, without_line}
 use Rattle.line_grammar.specs.Reading.{TakesLines, ReadsAhead, StopsAfter, FailsPart, TakesPart, TakesText}
 use Rattle.line_grammar.specs.Text.{text_of}
 use Rattle.line_grammar.proofs.FrontLines.{text_of-after}
@@ -62,6 +62,12 @@ fails_within g h lines old mid new a b c None within taken fails = record {
   stops = stops_within (h.lines_before (within.to fails.due)) lines (g.lines_before fails.due) old mid new a b c
       (within.before fails.due) taken fails.stops;
 }
+
+-- ---- no line
+
+pub takes_without : {V : Type 0} (value : V) (reader : Reader) (left : Option (List ℕ)) → reader.is_done ≡ false
+    → TakesPart (without_line value) reader reader left left value
+takes_without value reader left reading = record { says = refl; taken = takes_none reader left reading; ahead = refl }
 
 -- ---- one part after another
 

@@ -31,6 +31,22 @@ line_part form = record {
   lines_of = λ v. form.line_of v ∷ [];
 }
 
+-- ---- no line
+
+-- this value is said by no line
+abbrev pub without_line : {V : Type 0} → V → Part V
+without_line value = record {
+  grammar = record {
+    Due = Unit {0};
+    IsReached = λ _. ⊥;
+    lines_before = λ _. [];
+    Has = λ _ _ _. ⊥;
+    Lacks = λ _ _ _. ⊤;
+  };
+  Says = λ v. v ≡ value;
+  lines_of = λ _. [];
+}
+
 -- ---- one part after another
 
 -- a line is due in the first part, or in the one that follows what the first said

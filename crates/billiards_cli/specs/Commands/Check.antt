@@ -6,8 +6,7 @@ use Rattle.std.specs.Fmt.{decimal}
 use Rattle.line_grammar.specs.declared.reason.Reason.{Reason}
 use Rattle.line_grammar.specs.declared.reason.Reason.TheVariants as reason
 use Rattle.covering_file.specs.declared.file_kind.FileKind.TheVariants.{Cover}
-use Rattle.covering_file.specs.Header.{first_line}
-use Rattle.line_grammar.specs.Text.{BeginsWith}
+use Rattle.covering_file.specs.Faults.{BeginsFile}
 use Rattle.covering_file.specs.Verdicts.{IsAccepted, IsRefused, IsSureFile}
 use Rattle.billiards_cli.specs.Refusals.{newline, RefusesLine}
 use Rattle.covering_file.specs.declared.TheConstants.{MAX_NODES}
@@ -45,7 +44,7 @@ pub record IsRefusedWith (input : List ℕ) (status : Status) (line : ℕ) (reas
   pub status_is : refusal_status reason ≡ status
 
 pub record CheckWantsMemory (input text : List ℕ) : Type 0 where
-  pub begins : BeginsWith input (first_line Cover)
+  pub begins : BeginsFile Cover input
   pub text_is : text ≡ []
 
 -- Done where the file is accepted. Else the first line that can be refused is named. Memory is wanting only after the first line of a file.

@@ -2,9 +2,9 @@
 use Rattle.std.specs.Prelude.{◌≡◌, ◌⊎◌, ℕ, List, [], ◌∷◌, Some, None, ⊤}
 use Rattle.std.specs.declared.option.Option.{Option}
 use Rattle.line_grammar.specs.Offence.{IsFirstOffence}
-use Rattle.line_grammar.specs.Text.{BeginsWith}
 use Rattle.line_grammar.specs.declared.reason.Reason.{Reason}
-use Rattle.covering_file.specs.Header.{Heading, IsHeading, first_line, job_text}
+use Rattle.covering_file.specs.Header.{Heading, IsHeading, job_text}
+use Rattle.covering_file.specs.Faults.{BeginsFile}
 use Rattle.covering_file.specs.HeaderPart.{job_part}
 use Rattle.covering_file.specs.declared.TheConstants.{MAX_NODES}
 use Rattle.covering_file.specs.declared.file_kind.FileKind.TheVariants.{Job}
@@ -51,7 +51,7 @@ pub record BeginsToCover (input text : List ℕ) : Type 0 where
 -- ---- the command
 
 pub record CoverWantsMemory (input text : List ℕ) : Type 0 where
-  pub begins : BeginsWith input (first_line Job)
+  pub begins : BeginsFile Job input
   pub text_is : text ≡ []
 
 -- Done where the whole tree has no uncovered box, and not shown where it has some; full where the most nodes are written and more are due.

@@ -1,5 +1,5 @@
 //! A generated job covered in memory, and the verdict on the file that was made.
-ghost use Rattle.std.specs.Prelude.{◌≡◌, List, [], ℕ, Some, IfOk};
+ghost use Rattle.std.specs.Prelude.{◌≡◌, List, [], ◌∷◌, ℕ, Some, IfOk};
 ghost use Rattle.mcb_ends.specs.SureSource.{sure_left};
 ghost use Rattle.covering_file.specs.declared.TheConstants.{MAX_NODES};
 ghost use Rattle.cover_checker.specs.Verdicts.{IsRight};
@@ -13,7 +13,7 @@ use coverer::{CoverFault, Covered, cover};
 use covering_file::{Header, MAX_NODES};
 use edge_words::Word;
 use mcb_ends::{MemSink, OutOfMemory, Sink, SureSource};
-use rational_polygon::Polygon;
+use rational_polygon::{Polygon, Region};
 use std::alloc::Global;
 
 // How many bytes there are for a file. That of the largest tree of a generated job has fewer.
@@ -88,9 +88,18 @@ fn generated(alloc: Global, number: &JobNumber) -> Result<Header, OutOfMemory>
     ensures heading { IfOk result (λ header. header ≡ job_heading number.now) }
     ensures is_number { IfOk result (λ _. IsJobNumber number.now) }
 {
-    let polygon = generated_polygon(alloc, number)?;
+    let region = generated_region(alloc, number)?;
     let words = vec![in alloc; generated_word(alloc)]?;
-    Ok(Header::new(polygon, words, 10).unwrap())
+    Ok(Header::new(1, region, words, 10).unwrap())
+}
+
+fn generated_region(alloc: Global, number: &JobNumber) -> Result<Region, OutOfMemory>
+    ensures region { IfOk result (λ region. region ≡ job_outline number.now ∷ []) }
+    ensures is_number { IfOk result (λ _. IsJobNumber number.now) }
+{
+    let polygon = generated_polygon(alloc, number)?;
+    let polygons = vec![in alloc; polygon]?;
+    Ok(Region::new(polygons).unwrap())
 }
 
 fn generated_polygon(alloc: Global, number: &JobNumber) -> Result<Polygon, OutOfMemory>

@@ -1,8 +1,13 @@
-use Rattle.std.proofs.Common.{ap, length}
+use Rattle.std.proofs.Common.{ap, length, arith}
 use Rattle.line_grammar.specs.Faults.{refusal_of}
+use Rattle.covering_file.specs.declared.file_kind.FileKind.TheVariants.{Cover}
+use Rattle.covering_file.proofs.HeaderLengths.{header_length}
 use Rattle.cover_checker.specs.Verdicts.{checked_tree}
 use Rattle.cover_checker.proofs.RightVerdicts.{accepted_after, refused_after, is_refused}
 use Rattle.cover_checker.proofs.judging.judge.Goals as goal
+
+pub take_tree-requires-clause-few : goal.take_tree-requires-clause-few
+take_tree-requires-clause-few g c = omega (arith, c.requires.number, header_length Cover c.args.header.now c.words.ensures.is_heading)
 
 pub returns-in-Ok-clause-right : goal.returns-in-Ok-clause-right
 returns-in-Ok-clause-right g c =

@@ -1,6 +1,6 @@
 -- The tests are those of the header's words, before and after each call.
 use Rattle.std.proofs.Common.{◌∙◌, ℕ, List, sym, ap, subst, arith}
-use Rattle.rational_polygon.specs.Apart.{IsApart}
+use Rattle.rational_polygon.specs.Region.{IsApartFromRegion}
 use Rattle.rational_polygon.specs.Outline.{Outline}
 use Rattle.rational_polygon.specs.Square.{Square}
 use Rattle.gradient_bounds.specs.Slacks as slacks
@@ -12,10 +12,14 @@ use Rattle.coverer.proofs.choosing.choose.Goals as goal
 pub first_clear-requires-clause-shut : goal.first_clear-requires-clause-shut
 first_clear-requires-clause-shut c = subst (λ (ts : List (List ℕ)). AreShutOut ts c.args.words c.args.place) (sym c.requires.tests) c.requires.shut
 
+pub returns-then-apart_region-clause-cause : goal.returns-then-apart_region-clause-cause
+returns-then-apart_region-clause-cause c =
+    subst (λ (r : List Outline). IsApartFromRegion c.args.place r) c.region.ensures.value (c.apart_region.ensures.0 c.if-apart_region.true)
+
 pub returns-in-Some-clause-cause : goal.returns-in-Some-clause-cause
 returns-in-Some-clause-cause c = (
-  λ apart. not_both c.apart.result c.if-apart.false
-      (c.apart.ensures.1 (subst (λ (o : Outline). IsApart c.args.place o) (sym c.polygon.ensures.value) apart)),
+  λ apart. not_both c.apart_region.result c.if-apart_region.false
+      (c.apart_region.ensures.1 (subst (λ (r : List Outline). IsApartFromRegion c.args.place r) (sym c.region.ensures.value) apart)),
   subst (λ (ts : List (List ℕ)). IsFirstClear ts slacks.sure slacks.findable c.args.place c.in-Some.i) c.requires.tests c.in-Some.ensures.first,
 )
 
@@ -25,8 +29,8 @@ without_shut-requires-clause-shut c =
 
 pub returns-then-place-depth-clause-cause : goal.returns-then-place-depth-clause-cause
 returns-then-place-depth-clause-cause c = (
-  λ apart. not_both c.apart.result c.if-apart.false
-      (c.apart.ensures.1 (subst (λ (o : Outline). IsApart c.args.place o) (sym c.polygon.ensures.value) apart)),
+  λ apart. not_both c.apart_region.result c.if-apart_region.false
+      (c.apart_region.ensures.1 (subst (λ (r : List Outline). IsApartFromRegion c.args.place r) (sym c.region.ensures.value) apart)),
   subst (λ (ts : List (List ℕ)). NoneIsClear ts slacks.findable c.args.place) c.requires.tests c.in_default.ensures.first,
   omega (arith, c.if-place-depth.true, c.depth.ensures.value, ap (λ (s : Square). s.level) c.place.view_is),
 )
@@ -38,8 +42,8 @@ returns-then-place-depth-clause-shut c =
 
 pub returns-clause-cause : goal.returns-clause-cause
 returns-clause-cause c = (
-  λ apart. not_both c.apart.result c.if-apart.false
-      (c.apart.ensures.1 (subst (λ (o : Outline). IsApart c.args.place o) (sym c.polygon.ensures.value) apart)),
+  λ apart. not_both c.apart_region.result c.if-apart_region.false
+      (c.apart_region.ensures.1 (subst (λ (r : List Outline). IsApartFromRegion c.args.place r) (sym c.region.ensures.value) apart)),
   subst (λ (ts : List (List ℕ)). NoneIsClear ts slacks.findable c.args.place) c.requires.tests c.in_default.ensures.first,
   omega (arith, c.if-place-depth.false, c.requires.level, c.depth.ensures.value, ap (λ (s : Square). s.level) c.place.view_is),
 )

@@ -7,7 +7,7 @@ use Rattle.line_grammar.specs.Text.{with_newline, text_of}
 use Rattle.covering_file.specs.FilePart.{file_lines}
 use Rattle.covering_file.specs.Node.{end_line}
 use Rattle.coverer.specs.Begun.{begun_lines}
-use Rattle.coverer.proofs.Lines.{wrote_begun, wrote_whole, failed_in_nodes, failed_in_end}
+use Rattle.coverer.proofs.Lines.{wrote_begun, wrote_whole, failed_in_header, failed_in_nodes, failed_in_end}
 use Rattle.coverer.proofs.covering.write_file.Goals as goal
 
 is_false : (b : Bool) → not b ≡ true → b ≡ false
@@ -17,6 +17,13 @@ is_false false is = refl
 is_true : (b : Bool) → not b ≡ false → b ≡ true
 is_true true is = refl
 is_true false is = sym is
+
+pub returns-in_err-write_header-clause-failed : goal.returns-in_err-write_header-clause-failed
+returns-in_err-write_header-clause-failed g c =
+    let k = g.K.Sink in
+    let p = err_from_is_err_and c.from_residual.result c.from_residual.ensures.1 in
+    rw p.1
+    (failed_in_header c.args.limit (k.written c.args.out.now) (k.written c.write_header.new.out) c.args.header.now c.in_err-write_header.ensures.text)
 
 pub returns-in_err-tree-clause-failed : goal.returns-in_err-tree-clause-failed
 returns-in_err-tree-clause-failed g c =

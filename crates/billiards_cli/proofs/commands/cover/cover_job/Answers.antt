@@ -60,7 +60,7 @@ returns-in-Err-Write-clause-serves g c = λ left left' faults faults' may_be end
 pub returns-in-Err-Memory-clause-serves : goal.returns-in-Err-Memory-clause-serves
 returns-in-Err-Memory-clause-serves g c = λ left left' faults faults' may_be end stood.
     let h = c.args.header.now in
-    let right : CoverWantsMemory (job_text h) [] = record { begins = job_begins h; text_is = refl } in
+    let right : CoverWantsMemory (job_text h) [] = record { begins = job_begins h c.requires; text_is = refl } in
     record {
       leaves = record {
         answer = cover_answer left left' (job_text h) OutOfMemory [] tt may_be right (inr end);
