@@ -1,5 +1,6 @@
 -- A header and a job tell one value, whole ones never offend, and their first offence is one.
-use Rattle.std.proofs.Common.{◌≡◌, ℕ, List, [], ◌∷◌, ◌++◌, length, codes, refl, sym, ap, ◌∙◌, subst, arith, append_assoc, append-nil, length-append, All, inl, inr}
+use Rattle.std.proofs.Common.{◌≡◌, ℕ, List, [], ◌∷◌, ◌++◌, length, codes, refl, sym, ap, ◌∙◌, subst, arith, append_assoc, append-nil, length-append}
+use Rattle.std.proofs.Common.{All, inl, inr}
 use Rattle.std.proofs.lemmas.Bool.{le-ltb}
 use Rattle.std.specs.List.{flat_map}
 use Rattle.edge_words.specs.Reading.{digits_of}
@@ -28,7 +29,8 @@ use Rattle.covering_file.specs.HeaderPart.{IsRegionIn, region_part, AreListed, l
 use Rattle.covering_file.specs.HeaderPart.{after_region, after_first_line, header_part, ended_header, job_part}
 use Rattle.covering_file.specs.Laws.{HeaderIsOne, NoHeaderPrefix, HeaderNeverOffends, JobNeverOffends}
 use Rattle.covering_file.proofs.CornerForms.{first_is_form, next_corner_is_form, word_is_form}
-use Rattle.covering_file.proofs.HeadLines.{some_version, first_line-short, one_kind, regions_is_form, end_is_form, grid_is_form, polygon_is_form, words_is_form, depth_is_form}
+use Rattle.covering_file.proofs.HeadLines.{some_version, first_line-short, one_kind}
+use Rattle.covering_file.proofs.HeadLines.{regions_is_form, end_is_form, grid_is_form, polygon_is_form, words_is_form, depth_is_form}
 use Rattle.covering_file.proofs.HeaderParts.{corner_due, corner_after, corner_lines, corner_count, polygon_due, polygon_after, polygons_lines}
 use Rattle.covering_file.proofs.HeaderParts.{grid_part, count_lines-of, count_says, word_due, word_after, first_part}
 use Rattle.covering_file.proofs.JobParts.{end_part}
@@ -177,7 +179,8 @@ header_value_is_one kind =
     (λ _ _. both_are_one words_part (λ _. depth_part) words_one (λ _ _. line_is_one _ (depth_is_form 0 MAX_LEVEL (omega arith))))))
     (heading_says kind) (heading_lines kind) heading_tells
 
-same_kind : (kind other : FileKind) (g h : Heading) (x y : List ℕ) → IsHeading g → IsHeading h → header_text kind g ++ x ≡ header_text other h ++ y → kind ≡ other
+same_kind : (kind other : FileKind) (g h : Heading) (x y : List ℕ) → IsHeading g → IsHeading h
+    → header_text kind g ++ x ≡ header_text other h ++ y → kind ≡ other
 same_kind kind other g h x y of_g of_h is =
     let after = λ (f : Heading). region_lines f.version f.region ++ words_lines f.words ++ depth_part.lines_of f.depth in
     let short = first_line-short kind g.version (some_version g.version (length g.region) of_g.version) in

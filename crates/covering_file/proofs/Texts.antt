@@ -56,7 +56,8 @@ first_grid r ps o same some is =
     ap (λ (p : Outline). p.grid) (here ∙ get_or_default r 0 o none (omega (arith, some)))
 
 -- the text of a header: its first line, the region, the words and the depth
-pub header_text-parts : (kind : FileKind) (h : Heading) → header_text kind h ≡ with_newline (first_line kind h.version) ++ (text_of (region_lines h.version h.region)
+pub header_text-parts : (kind : FileKind) (h : Heading) → header_text kind h
+    ≡ with_newline (first_line kind h.version) ++ (text_of (region_lines h.version h.region)
     ++ (text_of (words_lines h.words) ++ with_newline (named_line (codes "depth") h.depth)))
 header_text-parts kind h =
     let last = named_line (codes "depth") h.depth ∷ [] in

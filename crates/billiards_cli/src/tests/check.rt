@@ -39,6 +39,14 @@ const RIGHT_TRIANGLES: &str = "polygon 4\n31 15\n33 15\n33 17\n31 17\n";
 
 const UNCOVERED: &str = "depth 2\ns\ns\no\nu\no\nu\ns\nu\no\nu\no\no\no\nend open 4\n";
 
+// The same polygon and another one, in a file of version 2: the first nodes stand on lines 15 to 19.
+const TWO_REGIONS: &str = "mcbcover 2\ngrid 384\nregions 2\n";
+
+const BESIDE: &str = "polygon 3\n128 127\n128 128\n127 128\n";
+
+// In the box of the fourth node, which is said to be outside.
+const ELSEWHERE: &str = "polygon 3\n100 100\n101 100\n100 101\n";
+
 fn joined(alloc: Global, parts: &[&str]) -> Result<String, AllocError> {
     let mut text = String::new(alloc);
     for part in parts {
@@ -264,5 +272,45 @@ fn check_lays_faults_to_the_outside(rt: HostRuntime) -> Result<(), Fail> {
     let arguments = arguments_of(rt.alloc(), &["check"])?;
     let file = joined(rt.alloc(), &FILE)?;
     assert_faults(&rt, &arguments, file.as_bytes(), 16)?;
+    Ok(())
+}
+
+// Files of version 2, whose boxes are apart from each polygon or not.
+#[test]
+fn check_judges_regions(rt: HostRuntime) -> Result<(), Fail> {
+    let nodes = [FIRST_NODES, LAST_NODES, END];
+    let rows: [(&str, &str, Status, &str); 5] = [
+        (TWO_REGIONS, BESIDE, Status::Done, ACCEPTED),
+        (
+            TWO_REGIONS,
+            ELSEWHERE,
+            Status::NotShown,
+            "refused line=22 reason=10\n",
+        ),
+        (
+            "mcbcover 2\ngrid 384\nregions 9\n",
+            BESIDE,
+            Status::Malformed,
+            "refused line=3 reason=4\n",
+        ),
+        (
+            "mcbcover 2\ngrid 384\n",
+            BESIDE,
+            Status::Malformed,
+            "refused line=3 reason=3\n",
+        ),
+        (
+            "mcbcover 2\ngrid 384\nregions 1\n",
+            "",
+            Status::Done,
+            ACCEPTED,
+        ),
+    ];
+    for (head, second, status, text) in rows {
+        let header = joined(rt.alloc(), &[head, TRIANGLE, second, WORD, DEPTH])?;
+        let tree = joined(rt.alloc(), &nodes)?;
+        let file = joined(rt.alloc(), &[header.as_str(), tree.as_str()])?;
+        assert_judged(&rt, file.as_str(), status, text)?;
+    }
     Ok(())
 }

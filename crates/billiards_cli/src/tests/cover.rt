@@ -30,6 +30,13 @@ const GENERATED: &str =
 const GENERATED_COVER: &str =
     "mcbcover 1\ngrid 768\npolygon 3\n276 216\n276 276\n216 276\nwords 1\n123123\ndepth 10\ns\ns\no\no\no\ns\ns\no\ns\no\nw 1\nw 1\nw 1\ns\no\nw 1\nw 1\nw 1\nw 1\no\no\no\no\no\no\nend complete\n";
 
+// Two polygons in one box of level 7, in version 2.
+const REGIONS: &str =
+    "mcbjob 2\ngrid 384\nregions 2\npolygon 3\n127 127\n128 127\n127 128\npolygon 3\n128 127\n128 128\n127 128\nwords 1\n123123\ndepth 7\nend\n";
+
+const REGIONS_COVER: &str =
+    "mcbcover 2\ngrid 384\nregions 2\npolygon 3\n127 127\n128 127\n127 128\npolygon 3\n128 127\n128 128\n127 128\nwords 1\n123123\ndepth 7\ns\ns\no\no\no\ns\ns\no\no\no\nw 1\no\no\no\no\no\no\nend complete\n";
+
 #[test]
 fn cover_writes_a_covering(rt: HostRuntime) -> Result<(), Fail> {
     let rows = [
@@ -37,6 +44,7 @@ fn cover_writes_a_covering(rt: HostRuntime) -> Result<(), Fail> {
         (SHALLOW, Status::NotShown, SHALLOW_COVER),
         (RIGHT, Status::NotShown, RIGHT_COVER),
         (GENERATED, Status::Done, GENERATED_COVER),
+        (REGIONS, Status::Done, REGIONS_COVER),
     ];
     let arguments = arguments_of(rt.alloc(), &["cover"])?;
     for (job, status, text) in rows {

@@ -1,4 +1,4 @@
-use Rattle.std.proofs.Common.{◌≡◌, List, [], arith, subst, sym}
+use Rattle.std.proofs.Common.{◌≡◌, [], arith, subst, sym}
 use Rattle.std.proofs.lemmas.Result.{err_from_is_err_and, IfOk-at_ok}
 use Rattle.mcb_ends.specs.Reader.{bytes_before}
 use Rattle.line_grammar.specs.Reading.{TakesPart}

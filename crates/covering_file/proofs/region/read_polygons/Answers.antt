@@ -1,8 +1,8 @@
-use Rattle.std.proofs.Common.{None, ◌<◌, ℕ, List, length, arith, ◌∙◌, sym, subst}
+use Rattle.std.proofs.Common.{None, ◌<◌, List, length, arith, ◌∙◌, sym, subst}
 use Rattle.std.proofs.lemmas.Result.{err_from_is_err_and}
 use Rattle.rational_polygon.specs.Outline.{Outline}
 use Rattle.line_grammar.specs.Reading.{TakesPart}
-use Rattle.covering_file.proofs.HeaderParts.{polygon_turn_fails, polygon_turn_taken, polygons_so_far, all_polygons}
+use Rattle.covering_file.proofs.HeaderParts.{polygon_turn_fails, polygon_turn_taken, polygons_so_far}
 use Rattle.covering_file.proofs.Pushed.{pushed, length_more}
 use Rattle.covering_file.proofs.region.read_polygons.Goals as goal
 

@@ -18,7 +18,8 @@ returns-in_err-write_region-clause-text g c =
     let new = k.written c.write_region.new.out in
     let result = c.from_residual-in_err-write_region.result in
     let first = with_newline (first_line c.args.kind h.version) in
-    let wrote = subst (λ (v : ℕ). Appends old head (with_newline (first_line c.args.kind v))) c.version-version.ensures.value c.in_ok-write_first.ensures.text in
+    let wrote = subst (λ (v : ℕ). Appends old head (with_newline (first_line c.args.kind v))) c.version-version.ensures.value
+    c.in_ok-write_first.ensures.text in
     let region = text_of (region_lines h.version h.region) in
     let behind = text_of (words_lines h.words) ++ with_newline (named_line (codes "depth") h.depth) in
     let begun = subst (λ (v : ℕ). AppendsPrefix head new (text_of (region_lines v h.region))) c.version-version.ensures.value
@@ -39,7 +40,8 @@ returns-in_err-write_words-clause-text g c =
     let new = k.written c.write_words.new.out in
     let result = c.from_residual-in_err-write_words.result in
     let first = with_newline (first_line c.args.kind h.version) in
-    let wrote = subst (λ (v : ℕ). Appends old head (with_newline (first_line c.args.kind v))) c.version-version.ensures.value c.in_ok-write_first.ensures.text in
+    let wrote = subst (λ (v : ℕ). Appends old head (with_newline (first_line c.args.kind v))) c.version-version.ensures.value
+    c.in_ok-write_first.ensures.text in
     let region = text_of (region_lines h.version h.region) in
     let words = text_of (words_lines h.words) in
     let depth = with_newline (named_line (codes "depth") h.depth) in
@@ -63,7 +65,8 @@ returns-clause-text g c =
     let new = k.written c.write_named.new.out in
     let result = c.write_named.result in
     let first = with_newline (first_line c.args.kind h.version) in
-    let wrote = subst (λ (v : ℕ). Appends old head (with_newline (first_line c.args.kind v))) c.version-version.ensures.value c.in_ok-write_first.ensures.text in
+    let wrote = subst (λ (v : ℕ). Appends old head (with_newline (first_line c.args.kind v))) c.version-version.ensures.value
+    c.in_ok-write_first.ensures.text in
     let region = text_of (region_lines h.version h.region) in
     let words = text_of (words_lines h.words) in
     let depth = with_newline (named_line (codes "depth") h.depth) in

@@ -1,4 +1,4 @@
-use Rattle.std.proofs.Common.{◌≡◌, true, ℕ, List, All, length, subst}
+use Rattle.std.proofs.Common.{◌≡◌, ℕ, List, All, length, subst}
 use Rattle.rational_polygon.specs.Outline.{Outline}
 use Rattle.covering_file.specs.Faults.{IsFaultIn, IsFaultOf}
 use Rattle.covering_file.specs.Header.{Heading, IsStableWord, IsVersionFor, IsWordCount, IsDepth}
