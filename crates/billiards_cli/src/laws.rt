@@ -25,7 +25,7 @@ pub fn complete_is_accepted()
     ensures { CompleteIsAccepted }
 {}
 
-/// Each generated job is a job: a polygon, a stable word and a depth within the limits.
+/// Each generated job is a job: a region, a stable word and a depth within the limits.
 pub fn generated_is_job()
     ensures { GeneratedIsJob }
 {}

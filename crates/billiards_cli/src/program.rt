@@ -30,7 +30,7 @@ pub fn run<S: Source, K: Sink>(alloc: Global, arguments: &Args, src: &mut S, out
         (record { left = S.left src.new; source_faults = S.faults src.new; written = K.written out.new; sink_faults = K.faults out.new })
         result) }
 
-    // The headline. Where `check` is done, the bytes read are one whole covering file, and every point of its polygon that
+    // The headline. Where `check` is done, the bytes read are one whole covering file, and every point of its region that
     // is a triangle has a listed word with a corridor: the word is stable, its unfolding ends in a translate of its first
     // triangle, and every upper corner lies strictly to the left of every lower corner along that translation.
     ensures headline { Headline arguments.now result (S.left src.old) (S.left src.new) }

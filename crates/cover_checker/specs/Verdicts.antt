@@ -35,7 +35,7 @@ IsRightFor limit left verdict = (bytes : List ℕ) × MayBe left bytes × IsRigh
 abbrev pub IsRightAfter : ℕ → Heading → Option (List ℕ) → Verdict → Type 0
 IsRightAfter limit h left verdict = (bytes : List ℕ) × MayBe left bytes × IsRight limit (header_text Cover h ++ bytes) verdict
 
--- what `Accepted` means: the bytes are one whole covering file, and its polygon is covered
+-- what `Accepted` means: the bytes are one whole covering file, and its region is covered
 abbrev pub Covers : ℕ → Option (List ℕ) → Verdict → Type 0
 Covers limit left (Accepted nodes words) = (bytes : List ℕ) × MayBe left bytes × IsCovering limit bytes
 Covers limit left (Refused line reason) = ⊤

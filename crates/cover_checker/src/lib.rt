@@ -1,6 +1,6 @@
 //! The checker of covering files.
 //!
-//! The one contract: a verdict is right. An accepted file is whole, and every triangle of its polygon has a corridor of a
+//! The one contract: a verdict is right. An accepted file is whole, and every triangle of its region has a corridor of a
 //! listed word; a refused one has the named reason at the named line, and the lines before it are in order.
 #![tactic(auto)]
 

@@ -33,7 +33,7 @@ cover_lines h nodes (Complete n) = file_lines h nodes
 cover_lines h nodes (OpenBoxes n left) = file_lines h nodes
 cover_lines h nodes (Full n) = begun_lines h nodes
 
--- a covering of a polygon with an answer, and its text
+-- a covering of a region with an answer, and its text
 pub record IsCover (limit : ℕ) (h : Heading) (answer : Covered) (text : List ℕ) : Type 0 where
   pub nodes : List Node
   pub begun : IsBegun limit h nodes

@@ -13,7 +13,7 @@ use mcb_ends::{Failed, Sink};
 use pi_bounds::Coarse;
 use std::alloc::Global;
 
-/// Covers the polygon of the header by its words with a tree of at most `limit` nodes, and writes the covering file. All
+/// Covers the region of the header by its words with a tree of at most `limit` nodes, and writes the covering file. All
 /// memory is taken before the first byte.
 pub fn cover<K: Sink>(
     alloc: Global,

@@ -36,7 +36,7 @@ IsRefusedJob input line reason = IsFirstOffence job_part.grammar input line reas
 
 -- ---- the text
 
--- that of a covering of the job's polygon with this end
+-- that of a covering of the job's region with this end
 pub record CoversJob (input : List ℕ) (end : Covered) (text : List ℕ) : Type 0 where
   pub heading : Heading
   pub job : IsJobText input heading
