@@ -5,7 +5,7 @@ ghost use Rattle.covering_file.specs.declared.TheConstants.{MAX_WORDS};
 ghost use Rattle.covering_file.specs.Faults.{word_at, IsListed};
 ghost use Rattle.covering_claims.specs.Claims.{NoneIsClear, IsFirstClear};
 ghost use Rattle.coverer.specs.Causes.{HasCause};
-ghost use Rattle.coverer.specs.Words.{AreShutOut};
+ghost use Rattle.coverer.specs.Words.{AreAmong, AreShutOut};
 
 use crate::word_set::WordSet;
 use covering_claims::{WordTests, is_shown, is_shut};
@@ -34,6 +34,7 @@ pub fn choose(
     ensures kept { tests.new ≡ tests.old }
     ensures cause { HasCause header.now place result.node }
     ensures shut { AreShutOut header.now.words result.below place }
+    ensures fewer { AreAmong result.below words }
 {
     if place.apart_region(header.region()) {
         return Choice {
@@ -92,6 +93,7 @@ fn without_shut(tests: &mut [WordTests<Coarse>], place: GridBox, words: WordSet)
     requires shut { AreShutOut tests.old words place }
     ensures kept { tests.new ≡ tests.old }
     ensures shut { AreShutOut tests.old result place }
+    ensures fewer { AreAmong result words }
 {
     let mut left = words;
     for i in 1..=tests.len() as u32 {
@@ -107,6 +109,7 @@ fn drop_if_shut(tests: &mut [WordTests<Coarse>], i: u32, place: GridBox, words: 
     requires listed { IsListed tests.old i }
     ensures kept { tests.new ≡ tests.old }
     ensures shut { AreShutOut tests.old result place }
+    ensures fewer { AreAmong result words }
 {
     if words.has(i) && is_shut(tests, i, place) {
         return words.without(i);

@@ -10,6 +10,7 @@ pub loop-i-preserved : goal.loop-i-preserved
 loop-i-preserved c = (
   c.drop_if_shut-left.ensures.kept ∙ c.loop-i.invariant.0,
   subst (λ (ts : List (List ℕ)). AreShutOut ts c.drop_if_shut-left.result c.args.place) c.loop-i.invariant.0 c.drop_if_shut-left.ensures.shut,
+  λ i least most among. c.loop-i.invariant.2 i least most (c.drop_if_shut-left.ensures.fewer i least most among),
 )
 
 pub returns-2-clause-shut : goal.returns-2-clause-shut
