@@ -15,7 +15,7 @@ use Rattle.rational_polygon.specs.Square.{Square, unit_square}
 use Rattle.covering_file.specs.declared.TheConstants.{MAX_NODES}
 use Rattle.covering_file.specs.declared.file_kind.FileKind.TheVariants.{Cover}
 use Rattle.covering_file.specs.declared.node.Node.{Node}
-use Rattle.covering_file.specs.declared.node.Node.TheVariants.{Split, Outside, Shown, Uncovered}
+use Rattle.covering_file.specs.declared.node.Node.TheVariants.{Split, Outside, Shown, Corner, Uncovered}
 use Rattle.covering_file.specs.DueBoxes.{children, StandsIn}
 use Rattle.covering_file.specs.FilePart.{due_end, file_lines}
 use Rattle.covering_file.specs.Header.{Heading, header_lines}
@@ -52,12 +52,15 @@ nodes_below h [] (n ∷ nodes) are causes = absurd (are 0 (omega arith) refl)
 nodes_below h (box ∷ due) (Split ∷ nodes) are causes =
     let rest = nodes_below h (children box ++ due) nodes (due_behind (box ∷ due) Split nodes are) (λ at n stands. causes at n (inr stands)) in
     let cause = causes box Split (inl (refl, refl)) in
-    omega (arith, rest, one_level h.depth box.level cause.2)
+    omega (arith, rest, one_level h.depth box.level cause.1)
 nodes_below h (box ∷ due) (Outside ∷ nodes) are causes =
     let rest = nodes_below h due nodes (due_behind (box ∷ due) Outside nodes are) (λ at n stands. causes at n (inr stands)) in
     omega (arith, rest, some_node (h.depth - box.level))
 nodes_below h (box ∷ due) (Shown i ∷ nodes) are causes =
     let rest = nodes_below h due nodes (due_behind (box ∷ due) (Shown i) nodes are) (λ at n stands. causes at n (inr stands)) in
+    omega (arith, rest, some_node (h.depth - box.level))
+nodes_below h (box ∷ due) (Corner i ∷ nodes) are causes =
+    let rest = nodes_below h due nodes (due_behind (box ∷ due) (Corner i) nodes are) (λ at n stands. causes at n (inr stands)) in
     omega (arith, rest, some_node (h.depth - box.level))
 nodes_below h (box ∷ due) (Uncovered ∷ nodes) are causes =
     let rest = nodes_below h due nodes (due_behind (box ∷ due) Uncovered nodes are) (λ at n stands. causes at n (inr stands)) in
@@ -84,6 +87,9 @@ short_node k box Outside cause = lit≤ tt
 short_node k box Uncovered cause = lit≤ tt
 short_node k box (Shown i) cause =
     let listed = cause.1.listed in
+    omega (arith, length-decimal-le 1 i (lit< tt) (omega (arith, listed)) (omega (arith, listed)))
+short_node k box (Corner i) cause =
+    let listed = cause.2.listed in
     omega (arith, length-decimal-le 1 i (lit< tt) (omega (arith, listed)) (omega (arith, listed)))
 
 nodes_size : (nodes : List Node) → All IsShortNode nodes → length (text_of (map node_line nodes)) ≤ 4 * length nodes

@@ -1,5 +1,6 @@
 -- The right answers of `family`.
-use Rattle.std.proofs.Common.{◌≡◌, ℕ, zero, suc, ◌+◌, ◌-◌, ◌≤◌, ◌<◌, Bool, true, false, List, [], ◌∷◌, ◌++◌, length, map, filter, Option, None, Some, nat_le, ◌&&◌, cond, take, get_or}
+use Rattle.std.proofs.Common.{◌≡◌, ℕ, zero, suc, ◌+◌, ◌-◌, ◌≤◌, ◌<◌, Bool, true, false, List, []}
+use Rattle.std.proofs.Common.{◌∷◌, ◌++◌, length, map, filter, Option, None, Some, nat_le, ◌&&◌, cond, take, get_or}
 use Rattle.std.proofs.Common.{refl, sym, ap, ap₂, subst, ◌∙◌, inl, inr, arith}
 use Rattle.std.specs.Prelude.{◌⊎◌, Ok, Err, IsTrue}
 use Rattle.std.specs.List.{All, range_with_len}
@@ -7,7 +8,7 @@ use Rattle.std.proofs.lemmas.Bool.{le-leb, leb-true, cases_lt}
 use Rattle.std.proofs.lemmas.List.{append-nil, map_push, take_more}
 use Rattle.std.proofs.lemmas.List.Elements.{All-push}
 use Rattle.word_family.specs.Family.{Parts, member, IsStableFamily}
-use Rattle.word_family.specs.Reading.{SpellFamily, Reads}
+use Rattle.word_family.specs.Reading.{Reads}
 use Rattle.word_family.specs.declared.fault.FamilyFault.{FamilyFault}
 use Rattle.word_family.proofs.Readings.{same_parts, reads_one_way}
 use Rattle.gradient_bounds.specs.Clear.{IsClearAtPoint}

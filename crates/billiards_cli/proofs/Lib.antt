@@ -18,7 +18,10 @@ pub mod SearchAnswers
 pub mod TileAnswers
 pub mod OneTile
 pub mod PointsAnswers
+pub mod PathAnswers
+pub mod PathTexts
 pub mod CornerRows
 pub mod FamilyAnswers
 pub mod OneAnswer
 pub mod UnfoldAnswers
+pub mod UpgradeAnswers

@@ -1,13 +1,7 @@
 -- The right answers of `unfold`.
-use Rattle.std.proofs.Common.{◌≡◌, ℕ, List, Option, pos, refl, subst, subst₂, inl, inr}
-use Rattle.edge_words.specs.Reading.{Spells}
-use Rattle.line_grammar.specs.declared.reason.Reason.{Reason}
-use Rattle.rat_core.specs.Written.{Written, value}
-use Rattle.std.specs.declared.result.Result.{Result}
-use Rattle.svg_pictures.specs.UnfoldingPicture.{WritesUnfolding}
+use Rattle.std.proofs.Common.{ℕ, List, Option, refl, inl, inr}
 use Rattle.billiards_cli.proofs.WordArguments.{word_not_refused}
-use Rattle.billiards_cli.specs.Arguments.{Angles, RefusesAnyWord}
-use Rattle.billiards_cli.specs.Commands.At.{AtTriangle}
+use Rattle.billiards_cli.specs.Arguments.{Angles}
 use Rattle.billiards_cli.specs.Commands.Unfold.{IsUnfoldAnswer, IsUnfoldDue}
 use Rattle.billiards_cli.specs.Requests.{command_of}
 use Rattle.billiards_cli.specs.Services.{IsAnswer}
@@ -15,7 +9,6 @@ use Rattle.billiards_cli.specs.declared.request.Request.TheVariants as request
 use Rattle.billiards_cli.specs.declared.status.Status.{Status}
 use Rattle.billiards_cli.specs.declared.status.Status.TheVariants.{Done, Malformed, OutOfMemory}
 use Rattle.billiards_cli.proofs.Inputs.{some_input}
-use Rattle.billiards_cli.proofs.WordArguments.{any_word_is_form}
 
 unfold_answer_is_due : (argument : List ℕ) (triangle : Angles) (status : Status) (text : List ℕ)
     → IsUnfoldAnswer argument triangle status text → IsUnfoldDue argument status

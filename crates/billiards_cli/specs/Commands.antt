@@ -8,5 +8,7 @@ pub mod Demo
 pub mod Search
 pub mod Tile
 pub mod Unfold
+pub mod Upgrade
 pub mod Points
 pub mod Family
+pub mod Path

@@ -7,6 +7,7 @@ pub mod EndLine
 pub mod Jobs
 pub mod SearchBounds
 pub mod TileDepths
+pub mod UpgradeVersions
 pub mod Commands
 pub mod Requests
 pub mod Headline

@@ -16,10 +16,13 @@ use Rattle.billiards_cli.specs.Commands.Demo.{demo_request, IsDemoAnswer, IsDemo
 use Rattle.billiards_cli.specs.Commands.Search.{search_request, IsSearchAnswer, IsSearchDue}
 use Rattle.billiards_cli.specs.Commands.Tile.{tile_request, IsTileAnswer, IsTileDue}
 use Rattle.billiards_cli.specs.Commands.Unfold.{unfold_request, IsUnfoldAnswer, IsUnfoldDue}
+use Rattle.billiards_cli.specs.Commands.Upgrade.{upgrade_request, upgrade_input, upgrade_reads_to, IsUpgradeAnswer, IsUpgradeDue}
 use Rattle.billiards_cli.specs.Commands.Points.{points_request, IsPointsAnswer, IsPointsDue}
+use Rattle.billiards_cli.specs.Commands.Path.{path_request, IsPathAnswer, IsDrawnPathAnswer, IsPathDue}
 use Rattle.billiards_cli.specs.Commands.Family.{family_request, IsFamilyAnswer, IsFamilyDue, IsMembersAnswer, IsMembersDue}
 use Rattle.billiards_cli.specs.declared.request.Request.{Request}
-use Rattle.billiards_cli.specs.declared.request.Request.TheVariants.{Word, Check, At, Cover, Job, Demo, Search, Tile, Unfold, Points, Family, FamilyAt}
+use Rattle.billiards_cli.specs.declared.request.Request.TheVariants.{Word, Check, At, Cover, Job, Demo, Search, Tile, Unfold}
+use Rattle.billiards_cli.specs.declared.request.Request.TheVariants.{Upgrade, Points, Path, DrawnPath, Family, FamilyAt}
 
 -- the commands by their names: what the arguments after a name ask of it, if anything
 abbrev pub request_named : List ℕ → List (List ℕ) → Option Request
@@ -33,9 +36,11 @@ request_named name arguments =
     (if bytes_eq name (codes "search") then search_request arguments else
     (if bytes_eq name (codes "tile") then tile_request arguments else
     (if bytes_eq name (codes "unfold") then unfold_request arguments else
+    (if bytes_eq name (codes "upgrade") then upgrade_request arguments else
     (if bytes_eq name (codes "points") then points_request arguments else
+    (if bytes_eq name (codes "path") then path_request arguments else
     (if bytes_eq name (codes "family") then family_request arguments else
-    None))))))))))
+    None))))))))))))
 
 abbrev pub request_of : List (List ℕ) → Option Request
 request_of [] = None
@@ -97,11 +102,29 @@ command_of (Unfold word triangle) = record {
   IsRight = λ input. IsUnfoldAnswer word triangle;
   IsDue = λ input. IsUnfoldDue word;
 }
+command_of (Upgrade version) = record {
+  reads = By upgrade_input.grammar;
+  reads_to = upgrade_reads_to;
+  IsRight = IsUpgradeAnswer version;
+  IsDue = IsUpgradeDue;
+}
 command_of (Points word triangle) = record {
   reads = Nothing;
   reads_to = λ status. ToALine;
   IsRight = λ input. IsPointsAnswer word triangle;
   IsDue = λ input. IsPointsDue word;
+}
+command_of (Path word triangle) = record {
+  reads = Nothing;
+  reads_to = λ status. ToALine;
+  IsRight = λ input. IsPathAnswer word triangle;
+  IsDue = λ input. IsPathDue word triangle;
+}
+command_of (DrawnPath word triangle) = record {
+  reads = Nothing;
+  reads_to = λ status. ToALine;
+  IsRight = λ input. IsDrawnPathAnswer word triangle;
+  IsDue = λ input. IsPathDue word triangle;
 }
 command_of (Family texts) = record {
   reads = Nothing;

@@ -22,6 +22,7 @@ mod status;
 mod tests;
 mod tile_depth;
 mod triangle;
+mod upgrade_version;
 mod usage;
 mod word_argument;
 
@@ -38,6 +39,7 @@ use std::process::ExitCode;
 use std::{env, io};
 use tile_depth::TileDepth;
 use triangle::Triangle;
+use upgrade_version::UpgradeVersion;
 use usage::USAGE;
 use word_argument::WordArgument;
 

@@ -12,13 +12,17 @@ use crate::commands::demo::{self, demo};
 use crate::commands::family::at_triangle::family_at;
 use crate::commands::family::{self, family};
 use crate::commands::job::{self, job};
+use crate::commands::path::picture::drawn_path;
+use crate::commands::path::{self, path};
 use crate::commands::points::{self, points};
 use crate::commands::search::{self, search};
 use crate::commands::tile::{self, tile};
 use crate::commands::unfold::{self, unfold};
+use crate::commands::upgrade::{self, upgrade};
 use crate::commands::word::{self, word};
 use crate::{
-    Args, FamilyArgument, JobNumber, SearchBound, Status, TileDepth, Triangle, WordArgument,
+    Args, FamilyArgument, JobNumber, SearchBound, Status, TileDepth, Triangle, UpgradeVersion,
+    WordArgument,
 };
 use mcb_ends::{Sink, Source};
 use std::alloc::Global;
@@ -56,8 +60,20 @@ pub(crate) enum Request<'a> {
         word: WordArgument<'a>,
         triangle: Triangle,
     },
+    /// A covering file that is read from the input, in a later version.
+    Upgrade(UpgradeVersion),
     /// The corners of a word's unfolding in a triangle, as numbers.
     Points {
+        word: WordArgument<'a>,
+        triangle: Triangle,
+    },
+    /// The bounce points of a word's path in a triangle.
+    Path {
+        word: WordArgument<'a>,
+        triangle: Triangle,
+    },
+    /// The picture of a word's path in a triangle.
+    DrawnPath {
         word: WordArgument<'a>,
         triangle: Triangle,
     },
@@ -93,8 +109,12 @@ pub(crate) fn parse(arguments: &Args) -> Option<Request<'_>>
         tile::request(&arguments)
     } else if name == b"unfold".as_slice() {
         unfold::request(&arguments)
+    } else if name == b"upgrade".as_slice() {
+        upgrade::request(&arguments)
     } else if name == b"points".as_slice() {
         points::request(&arguments)
+    } else if name == b"path".as_slice() {
+        path::request(&arguments)
     } else if name == b"family".as_slice() {
         family::request(&arguments)
     } else {
@@ -127,7 +147,10 @@ pub(crate) fn obey<S: Source, K: Sink>(
         Request::Search { triangle, bound } => search(alloc, triangle, bound, out),
         Request::Tile { word, depth } => tile(alloc, word, depth, out),
         Request::Unfold { word, triangle } => unfold(alloc, word, triangle, out),
+        Request::Upgrade(version) => upgrade(alloc, version, src, out),
         Request::Points { word, triangle } => points(alloc, word, triangle, out),
+        Request::Path { word, triangle } => path(alloc, word, triangle, out),
+        Request::DrawnPath { word, triangle } => drawn_path(alloc, word, triangle, out),
         Request::Family(argument) => family(alloc, argument, out),
         Request::FamilyAt {
             family: argument,

@@ -5,6 +5,8 @@ pub(crate) const USAGE: &str = "usage: mcb word | check | cover
        mcb tile WORD H
        mcb unfold WORD P Q D
        mcb job K | demo K
+       mcb upgrade V
        mcb points WORD P Q D
+       mcb path WORD P Q D [svg]
        mcb family A B C [P Q D]
 ";

@@ -26,7 +26,9 @@ use Rattle.defining_functions.specs.Functions.{defining_function}
 use Rattle.defining_functions.proofs.Limits.{function_limits}
 use Rattle.gradient_bounds.specs.Clear.{margin}
 use Rattle.gradient_bounds.specs.CornerClear.{sag, IsCornerClearFunction}
-use Rattle.corner_bounds.specs.Laws.{CornerGivesCorridor, CornerClearWithLess}
+use Rattle.gradient_bounds.proofs.Boxes.{shut_gives_no_corridor_lem}
+use Rattle.gradient_bounds.proofs.Within.{corner_within}
+use Rattle.corner_bounds.specs.Laws.{CornerGivesCorridor, CornerClearWithLess, ShutIsNotCornerClear}
 use Rattle.corner_bounds.proofs.Chords.{IsShare, IsOfSecondOrder}
 use Rattle.corner_bounds.proofs.InSquare.{IsIn, Corners, value_in_square}
 
@@ -194,3 +196,11 @@ corner_clear_with_less_lem w box e d less clear = record {
     weaker s e d w v less reach =
         le₅ ℚ_ordered (λ s e d u v. s ⊞ d ⊠ u) (λ s e d u v. v) (λ s e d u v. times u d e ∷ le (s ⊞ e ⊠ u) v ∷ []) refl s e d (whole (1 + w)) v
         (whole_nonneg (1 + w), less, (reach, tt))
+
+-- ---- shut boxes
+
+pub shut_is_not_corner_clear_lem : ShutIsNotCornerClear
+shut_is_not_corner_clear_lem w box e d word positive enough shut clear =
+    let p = box_corner box 0 0 in
+    let here = (corner_within box).0 in
+    shut_gives_no_corridor_lem w box e positive shut p here (corner_gives_corridor_lem w box d word enough clear p here)

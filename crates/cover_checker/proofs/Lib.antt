@@ -1,5 +1,2 @@
-mod NodeReasons
-mod NextNode
-mod Reached
 mod WholeTree
 mod RightVerdicts

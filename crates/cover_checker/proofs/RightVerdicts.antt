@@ -1,7 +1,6 @@
 -- A header, and what is judged after it, make a right verdict of the whole file.
-use Rattle.std.proofs.Common.{◌≡◌, refl, sym, ap, ◌∙◌, subst, ℕ, ◌+◌, false, List, [], ◌∷◌, ◌++◌, length, Option, Some, None, Ok, Err, append-nil, arith}
-use Rattle.std.specs.Io.KnownBytes.{Consumes, IsAtEnd}
-use Rattle.mcb_ends.specs.declared.failed.Failed.{Failed}
+use Rattle.std.proofs.Common.{◌≡◌, refl, sym, subst, ℕ, ◌+◌, List, [], ◌++◌, length, Option, Some, None, Ok, Err, append-nil, arith}
+use Rattle.std.specs.Io.KnownBytes.{Consumes}
 use Rattle.mcb_ends.specs.Reader.{Reader, bytes_before}
 use Rattle.line_grammar.specs.declared.reason.Reason.{Reason}
 use Rattle.line_grammar.specs.Faults.{Refusal}
@@ -17,7 +16,7 @@ use Rattle.covering_file.specs.declared.file_kind.FileKind.TheVariants.{Cover}
 use Rattle.covering_file.specs.declared.node.Node.{Node}
 use Rattle.covering_file.specs.CheckClaims.{check_claims}
 use Rattle.covering_file.specs.Faults.{BeginsHeader}
-use Rattle.covering_file.specs.FilePart.{tree_part, tree_lines, file_lines, file_grammar}
+use Rattle.covering_file.specs.FilePart.{tree_part, tree_lines, file_grammar}
 use Rattle.covering_file.specs.Header.{Heading, IsHeading, header_lines, header_text}
 use Rattle.covering_file.specs.HeaderPart.{header_part}
 use Rattle.covering_file.specs.Verdicts.{IsAccepted, IsSureFile}
@@ -30,7 +29,7 @@ use Rattle.cover_checker.specs.declared.verdict.CheckFault.{CheckFault}
 use Rattle.cover_checker.specs.declared.verdict.Verdict.{Verdict}
 use Rattle.cover_checker.specs.declared.verdict.Verdict.TheVariants.{Accepted, Refused}
 use Rattle.cover_checker.specs.Steps.{TakesTree}
-use Rattle.cover_checker.specs.Verdicts.{IsRight, IsRightFor, IsRightAfter, Covers, IsAcceptance, StopsAt, StopsInTree, checked_tree}
+use Rattle.cover_checker.specs.Verdicts.{IsRightFor, IsRightAfter, Covers, IsAcceptance, StopsAt, StopsInTree, checked_tree}
 
 -- the part after a header
 abbrev tree_after : ℕ → Heading → Part (List Node)

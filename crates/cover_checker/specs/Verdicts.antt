@@ -1,14 +1,12 @@
 -- What a verdict says of a covering file, and how much of it was read.
-use Rattle.std.specs.Prelude.{◌≡◌, ℕ, ◌+◌, ◌≤◌, Bool, true, false, List, ◌++◌, length, Ok, Err, ⊤}
+use Rattle.std.specs.Prelude.{◌≡◌, ℕ, ◌+◌, Bool, true, false, List, ◌++◌, length, Ok, Err, ⊤}
 use Rattle.std.specs.declared.option.Option.{Option}
 use Rattle.std.specs.declared.result.Result.{Result}
-use Rattle.std.specs.Io.KnownBytes.{Consumes, IsAtEnd}
+use Rattle.std.specs.Io.KnownBytes.{IsAtEnd}
 use Rattle.mcb_ends.specs.Reader.{Reader}
 use Rattle.line_grammar.specs.Input.{MayBe}
-use Rattle.line_grammar.specs.Offence.{Grammar}
 use Rattle.line_grammar.specs.Part.{Part, whole_text}
 use Rattle.line_grammar.specs.Reading.{EndsAt, RefusesFirst, StopsEarly}
-use Rattle.line_grammar.specs.Text.{text_of}
 use Rattle.covering_file.specs.declared.file_kind.FileKind.TheVariants.{Cover}
 use Rattle.covering_file.specs.declared.node.Node.{Node}
 use Rattle.covering_file.specs.CheckClaims.{check_claims}

@@ -5,7 +5,8 @@ ghost use Rattle.line_grammar.specs.Reading.{FailsPart};
 ghost use Rattle.covering_file.specs.CheckClaims.{check_claims};
 ghost use Rattle.covering_file.specs.FilePart.{nodes_part};
 ghost use Rattle.covering_file.specs.Node.{IsNode};
-ghost use Rattle.cover_checker.specs.Steps.{JudgesNode, ReadsNode, TakesNodes};
+ghost use Rattle.covering_file.specs.TreeSteps.{JudgesNode, ReadsNode};
+ghost use Rattle.cover_checker.specs.Steps.{TakesNodes};
 
 use covering_claims::{WordTests, pass_node};
 use covering_file::{Header, MAX_NODES, Node, NodeLine, Reason, Walk};
@@ -14,6 +15,9 @@ use mcb_ends::{LineReader, Source};
 use pi_bounds::Fine;
 use rational_polygon::GridBox;
 use std::alloc::Global;
+
+// Corners are judged with the slack 2^-36.
+const CORNER_BITS: u32 = 36;
 
 /// Takes the lines of the nodes after a header, one for each box that is due, until none is. It answers how many there are,
 /// and takes no memory.
@@ -61,11 +65,12 @@ fn take_node<S: Source>(
     requires few { lines.old.number + 1 < 2 ^ 32 }
     requires reading { lines.old.is_done ≡ false }
     ensures kept { tests.new ≡ tests.old }
-    ensures node { ReadsNode limit header.now count place lines.old lines.new (S.left src.old) (S.left src.new) result }
+    ensures node { ReadsNode check_claims limit header.now count place lines.old lines.new (S.left src.old) (S.left src.new) result }
     ensures cause { HasCauseWhere is_read (S.faults src.old) (S.faults src.new) result }
 {
     let form = NodeLine {
         words: header.words().len() as u32,
+        version: header.version(),
     };
     let node = take(&form, lines, src)?;
     match judge_node(header, tests, limit, count, place, node) {
@@ -87,13 +92,13 @@ fn judge_node(
     node: Node,
 ) -> Result<(), Reason>
     requires tests { tests.old ≡ header.now.words }
-    requires node { IsNode (length header.now.words) node }
+    requires node { IsNode (length header.now.words) header.now.version node }
     ensures kept { tests.new ≡ tests.old }
-    ensures judged { JudgesNode header.now place node limit count result }
+    ensures judged { JudgesNode check_claims header.now place node limit count result }
 {
-    pass_node(header, tests, place, node)?;
-    if count >= limit {
-        return Err(Reason::TooMany);
+    match pass_node(header, tests, place, node, CORNER_BITS) {
+        Err(reason) if reason != Reason::TooShallow => Err(reason),
+        _ if count >= limit => Err(Reason::TooMany),
+        judged => judged,
     }
-    Ok(())
 }

@@ -17,6 +17,10 @@ const DEEP: &str = "ssooossooossooos1oooooooooooo";
 // One that shows the word on a box of level 4.
 const SHORT: &str = "ssooossooo1oooooo";
 
+// The beginning of a file of version 3, which judges a box of level 1 at its corners.
+const LARGE: &str =
+    "mcbcover 3\ngrid 384\nregions 1\npolygon 3\n127 127\n128 127\n127 128\nwords 1\n123123\ndepth 7\ns\nq 1\n";
+
 const COMPLETE: &str = "end complete\n";
 
 // A covering file with the word 123123.
@@ -142,5 +146,19 @@ fn judges_after_a_header(rt: HostRuntime) -> Result<(), Fail> {
             words: 1
         })
     );
+    Ok(())
+}
+
+// No corners of a large box are judged, and one node too many is the lesser reason.
+#[test]
+fn refuses_corners_of_large_boxes(rt: HostRuntime) -> Result<(), Fail> {
+    let alloc = rt.alloc();
+    for (limit, reason) in [(1, Reason::TooMany), (2, Reason::TooShallow)] {
+        let bytes = LARGE.as_bytes().to_vec(alloc)?;
+        assert_eq!(rt;
+            said(&rt, alloc, limit, bytes),
+            Ok(Verdict::Refused { line: 12, reason })
+        );
+    }
     Ok(())
 }

@@ -17,6 +17,7 @@ use Rattle.covering_file.specs.DueBoxes.{due_boxes}
 use Rattle.covering_file.specs.FilePart.{due_end, file_lines}
 use Rattle.covering_file.specs.Header.{Heading, header_lines, header_text}
 use Rattle.covering_file.specs.Node.{is_uncovered, node_line}
+use Rattle.covering_file.proofs.TreeText.{file_lines-parts}
 use Rattle.coverer.specs.Begun.{IsBegun, IsBegunText, begun_lines}
 use Rattle.coverer.proofs.Reached.{none_begun}
 
@@ -58,21 +59,10 @@ uncovered_same nodes n is =
     let last : sum_by one_for (n ∷ []) ≡ 0 = ap (λ b. 0 + cond b 1 0) is in
     omega (arith, sum_by-append one_for nodes (n ∷ []), last)
 
-pub not_uncovered : (n : Node) → ¬ (n ≡ Uncovered) → is_uncovered n ≡ false
-not_uncovered Uncovered differs = absurd (differs refl)
-not_uncovered n differs = refl
-
 -- ---- the file
 
 begun_text : (h : Heading) (nodes : List Node) → text_of (begun_lines h nodes) ≡ header_text Cover h ++ nodes_text nodes
 begun_text h nodes = text_of-append (header_lines Cover h) (map node_line nodes)
-
-whole_text : (h : Heading) (nodes : List Node)
-    → text_of (file_lines h nodes) ≡ header_text Cover h ++ (nodes_text nodes ++ with_newline (due_end nodes))
-whole_text h nodes =
-    text_of-append (header_lines Cover h) (map node_line nodes ++ due_end nodes ∷ [])
-    ∙ ap (λ (text : List ℕ). header_text Cover h ++ text)
-    (text_of-append (map node_line nodes) (due_end nodes ∷ []) ∙ ap (λ (text : List ℕ). nodes_text nodes ++ text) (append-nil (with_newline (due_end nodes))))
 
 pub wrote_begun : (old mid new : Option (List ℕ)) (h : Heading) (nodes : List Node) → Appends old mid (header_text Cover h)
     → Appends mid new (text_of (map node_line nodes)) → Appends old new (text_of (begun_lines h nodes))
@@ -83,7 +73,7 @@ wrote_begun old mid new h nodes header tree =
 pub wrote_whole : (old mid end new : Option (List ℕ)) (h : Heading) (nodes : List Node) → Appends old mid (header_text Cover h)
     → Appends mid end (text_of (map node_line nodes)) → Appends end new (with_newline (due_end nodes)) → Appends old new (text_of (file_lines h nodes))
 wrote_whole old mid end new h nodes header tree last =
-    subst (λ (text : List ℕ). Appends old new text) (sym (whole_text h nodes))
+    subst (λ (text : List ℕ). Appends old new text) (sym (file_lines-parts h nodes))
     (Appends-trans old mid new (header_text Cover h) (nodes_text nodes ++ with_newline (due_end nodes)) header
     (Appends-trans mid end new (nodes_text nodes) (with_newline (due_end nodes)) tree last))
 
@@ -114,7 +104,7 @@ pub failed_in_end : (limit : ℕ) (old mid end new : Option (List ℕ)) (h : Hea
 failed_in_end limit old mid end new h nodes begun none header tree cut = (
   text_of (file_lines h nodes),
   record { nodes = nodes; begun = begun; is_text = inr (none, refl) },
-  subst (λ (text : List ℕ). AppendsPrefix old new text) (sym (whole_text h nodes))
+  subst (λ (text : List ℕ). AppendsPrefix old new text) (sym (file_lines-parts h nodes))
       (AppendsPrefix-then old mid new (header_text Cover h) (nodes_text nodes ++ with_newline (due_end nodes)) header
       (AppendsPrefix-then mid end new (nodes_text nodes) (with_newline (due_end nodes)) tree cut)),
 )

@@ -115,7 +115,7 @@ pub after_split : (limit : ℕ) (h : Heading) (nodes : List Node) (set : WordSet
     → length nodes < limit → HasCause h d.place Split → AreShutOut h.words set d.place
     → HasReached limit h (nodes ++ Split ∷ []) (due_children d.place set ++ others)
 after_split limit h nodes set d others reached room cause shut =
-    let above : d.place.level < h.depth = cause.2 in
+    let above : d.place.level < h.depth = cause.1 in
     let one = λ (c : ℕ) (less : c < 4). child_due h set d.place c less above shut in
     let box = λ (c : ℕ). due_at (child d.place c) set in
     record {

@@ -1,20 +1,38 @@
 -- Words that are shut on a box, and so are not in question on it.
-use Rattle.std.proofs.Common.{◌≡◌, ◌≢◌, ◌↔◌, inl, inr, sym, ◌∙◌, subst, ℕ, ◌<◌, ◌≤◌, Bool, true, false, List, length, arith}
+use Rattle.std.proofs.Common.{◌≡◌, ◌≢◌, ◌↔◌, inl, inr, sym, ◌∙◌, subst, ℕ, ◌^◌, ◌<◌, ◌≤◌, pos, Bool, true, false, List, All, length, arith}
 use Rattle.std.proofs.lemmas.Bool.{cases_eq}
+use Rattle.std.proofs.lemmas.Int.{ints}
+use Rattle.std.proofs.lemmas.Nat.{pow_pos}
+use Rattle.rat_core.specs.Fraction.{◌÷◌, ◌≤ℚ◌}
+use Rattle.rat_core.proofs.Laws.{over_le}
 use Rattle.rational_polygon.specs.Square.{Square, child}
 use Rattle.gradient_bounds.specs.Clear.{IsClear, IsShut}
+use Rattle.gradient_bounds.specs.CornerClear.{IsCornerClear}
 use Rattle.gradient_bounds.specs.Slacks as slacks
 use Rattle.gradient_bounds.proofs.Margins.{slack_positive}
 use Rattle.gradient_bounds.proofs.Within.{shut_goes_to_children, shut_is_not_clear_lem}
+use Rattle.corner_bounds.proofs.Boxes.{shut_is_not_corner_clear_lem}
 use Rattle.covering_file.specs.Faults.{word_at, IsListed}
+use Rattle.covering_file.specs.Header.{IsStableWord}
+use Rattle.covering_file.proofs.Covers.{listed_is_word}
 use Rattle.coverer.specs.declared.word_set.WordSet.{WordSet}
 use Rattle.coverer.specs.Words.{IsIn, AreShutOut}
+
+enough : pos 1 ÷ 2 ^ 49 ≤ℚ slacks.findable.corner
+enough = over_le (pos 1) (pos 1) (2 ^ 49) (2 ^ 28) (pow_pos 49) (pow_pos 28) (omega (arith, ints))
 
 -- a word that is not in question is not clear
 pub shut_out : (words : List (List ℕ)) (set : WordSet) (box : Square) (i : ℕ) → AreShutOut words set box → IsListed words i → ¬ (IsIn set i)
     → ¬ (IsClear (word_at words i) box slacks.findable.gradient)
 shut_out words set box i shut listed out clear =
     shut_is_not_clear_lem (word_at words i) box slacks.sure.gradient slacks.findable.gradient (slack_positive 40) (slack_positive 28) (shut i listed out) clear
+
+-- nor is it at the corners
+pub shut_out_at_corners : (words : List (List ℕ)) (set : WordSet) (box : Square) (i : ℕ) → All IsStableWord words → AreShutOut words set box
+    → IsListed words i → ¬ (IsIn set i) → ¬ (IsCornerClear (word_at words i) box slacks.findable.corner)
+shut_out_at_corners words set box i stable shut listed out clear =
+    shut_is_not_corner_clear_lem (word_at words i) box slacks.sure.gradient slacks.findable.corner (listed_is_word words i stable listed) (slack_positive 40)
+    enough (shut i listed out) clear
 
 -- and it is out on each child of the box too
 pub shut_out_below : (words : List (List ℕ)) (set : WordSet) (box : Square) (c : ℕ) → c < 4 → AreShutOut words set box

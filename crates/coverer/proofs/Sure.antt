@@ -7,7 +7,7 @@ use Rattle.rational_polygon.specs.Square.{Square, unit_square}
 use Rattle.gradient_bounds.specs.Slacks as slacks
 use Rattle.line_grammar.specs.Text.{text_of}
 use Rattle.covering_file.specs.declared.node.Node.{Node}
-use Rattle.covering_file.specs.declared.node.Node.TheVariants.{Split, Outside, Shown, Uncovered}
+use Rattle.covering_file.specs.declared.node.Node.TheVariants.{Split, Outside, Shown, Corner, Uncovered}
 use Rattle.covering_file.specs.DueBoxes.{due_after, StandsIn}
 use Rattle.covering_file.specs.FilePart.{file_lines}
 use Rattle.covering_file.specs.Header.{Heading}
@@ -23,7 +23,8 @@ use Rattle.coverer.specs.Laws.{CompleteIsSure, CompleteIsNotRefused}
 caused_is_sure : (h : Heading) (box : Square) (node : Node) → HasCause h box node → is_uncovered node ≡ false → IsSoundNode h slacks.sure box node
 caused_is_sure h box Outside cause covered = cause
 caused_is_sure h box (Shown i) cause covered = (cause.1.listed, cause.1.clear)
-caused_is_sure h box Split cause covered = cause.2
+caused_is_sure h box (Corner i) cause covered = (cause.0, cause.2.listed, cause.2.clear)
+caused_is_sure h box Split cause covered = cause.1
 caused_is_sure h box Uncovered cause covered = cc
 
 counted_first : (n : Node) (nodes : List Node) → count_by is_uncovered (n ∷ nodes) ≡ cond (is_uncovered n) 1 0 + count_by is_uncovered nodes

@@ -20,6 +20,10 @@ const RIGHT: &str = "grid 64\npolygon 4\n31 15\n33 15\n33 17\n31 17\nwords 1\n12
 // A triangle of 60 by 60 grid steps near the equilateral one.
 const WIDE: &str = "grid 768\npolygon 3\n276 216\n276 276\n216 276\nwords 1\n123123\n";
 
+// A triangle in the box (510, 256) of level 10, near the right triangles.
+const RIM: &str =
+    "grid 3072\nregions 1\npolygon 3\n1531 769\n1532 769\n1531 770\nwords 1\n123123\ndepth 10\nend\n";
+
 // A covering file: its first lines, its nodes and its end. Each letter of the nodes is the line of one, and a digit that of
 // the word of this number.
 fn file(
@@ -168,6 +172,32 @@ fn leaves_a_prefix_where_the_sink_fails(rt: HostRuntime) -> Result<(), Fail> {
         assert_eq!(rt; sink.bytes().len(), room);
         assert!(rt; text.as_bytes().starts_with(sink.bytes()), "{room}");
         assert_eq!(rt; sink.faults(), 1);
+    }
+    Ok(())
+}
+
+// A box near the rim, which the centre does not show and the corners do, in version 3 alone.
+#[test]
+fn judges_corners_in_version_3(rt: HostRuntime) -> Result<(), Fail> {
+    let alloc = rt.alloc();
+    let rows = [
+        ("mcbjob 3\n", "q 1\n", Covered::Complete { nodes: 41 }),
+        (
+            "mcbjob 2\n",
+            "u\n",
+            Covered::OpenBoxes { nodes: 41, left: 1 },
+        ),
+    ];
+    for (first, node, answer) in rows {
+        let mut text = String::from_str(alloc, first)?;
+        text.push_str(RIM)?;
+        let mut src = MemSource::new(text.as_bytes().to_vec(alloc)?, 4096, Vec::new(alloc));
+        let header = read_job(alloc, &mut src)?;
+        let mut sink = MemSink::new(alloc, 4096, 4096, Vec::new(alloc))?;
+        assert_eq!(rt; covered(&rt, alloc, &header, MOST, &mut sink), Ok(answer));
+        let bytes = sink.bytes();
+        assert!(rt; bytes.len() >= 132);
+        assert!(rt; bytes[132..].starts_with(node.as_bytes()));
     }
     Ok(())
 }

@@ -4,9 +4,6 @@ use Rattle.std.specs.Prelude.{slice_index_or}
 use Rattle.std.proofs.Math.Seq.{take-suc}
 use Rattle.std.proofs.lemmas.List.{get_or_default, take_all}
 use Rattle.std.proofs.lemmas.Bool.{cases_lt}
-use Rattle.rat_core.specs.Fraction.{ℚ}
-use Rattle.rational_polygon.specs.Square.{Square}
-use Rattle.gradient_bounds.specs.Clear.{IsClear}
 use Rattle.covering_file.specs.Faults.{word_at, IsListed}
 
 pub listed_test : (tests words : List (List ℕ)) (i : ℕ) (test : List ℕ) → tests ≡ words → IsListed words i → test ≡ slice_index_or tests (i - 1) test
@@ -28,18 +25,18 @@ one_more words old new k word test is so_far more same within =
 pub all_tests : (words tests : List (List ℕ)) (k : ℕ) → tests ≡ take k words → length words ≤ k → tests ≡ words
 all_tests words tests k is past = is ∙ take_all k words past
 
--- ---- words that are not clear
+-- ---- what no word is
 
 -- what is not so of the words before a number, nor of the test of that word, is not so of those before the next number
-pub none_more : (words tests : List (List ℕ)) (box : Square) (e : ℚ) (i : ℕ) → tests ≡ words
-    → ((j : ℕ) → IsListed words j → j < i → ¬ (IsClear (word_at words j) box e)) → (IsClear (word_at tests i) box e → false ≡ true)
-    → (j : ℕ) → IsListed words j → j < i + 1 → ¬ (IsClear (word_at words j) box e)
-none_more words tests box e i kept before here j listed less clear =
+pub none_more : (P : List ℕ → Type 0) (words tests : List (List ℕ)) (i : ℕ) → tests ≡ words
+    → ((j : ℕ) → IsListed words j → j < i → ¬ (P (word_at words j))) → (P (word_at tests i) → false ≡ true)
+    → (j : ℕ) → IsListed words j → j < i + 1 → ¬ (P (word_at words j))
+none_more P words tests i kept before here j listed less clear =
     elim (cases_lt j i) [
       | inl earlier ↦ before j listed earlier clear
       | inr later ↦
           let same : j ≡ i = omega (arith, less, later) in
-          let at = subst (λ (ws : List (List ℕ)). IsClear (word_at ws i) box e) (sym kept) (subst (λ (k : ℕ). IsClear (word_at words k) box e) same clear) in
+          let at = subst (λ (ws : List (List ℕ)). P (word_at ws i)) (sym kept) (subst (λ (k : ℕ). P (word_at words k)) same clear) in
           let none : false ≡ true = here at in
           cc
     ]

@@ -1,3 +1,4 @@
+use crate::WordTests;
 use edge_words::Word;
 use gradient_bounds::{PrepareFault, Prepared};
 use pi_bounds::Fine;
@@ -101,5 +102,26 @@ fn tests_boxes_for_1212312123(rt: HostRuntime) -> Result<(), Fail> {
         assert_eq!(rt; prepared.test_box(place), clear);
         assert_eq!(rt; prepared.shut_box(place), shut);
     }
+    Ok(())
+}
+
+// Near the rim the corners show what the centre does not, and of a larger box they are not asked.
+#[test]
+fn tests_corners_of_123123(rt: HostRuntime) -> Result<(), Fail> {
+    let word = Word::read(rt.alloc(), b"123123")?;
+    let mut tests = WordTests::<Fine>::new(rt.alloc(), &word)?;
+    let place = GridBox {
+        i: 510,
+        j: 256,
+        level: 10,
+    };
+    let larger = GridBox {
+        i: 255,
+        j: 128,
+        level: 9,
+    };
+    assert!(rt; !tests.is_clear(place));
+    assert!(rt; tests.is_corner_clear(place, 36));
+    assert!(rt; !tests.is_corner_clear(larger, 36));
     Ok(())
 }

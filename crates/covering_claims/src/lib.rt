@@ -1,7 +1,7 @@
 //! What the nodes of a tree claim of their boxes, judged by tests at a scale.
 //!
-//! The one contract: a node that is passed may stand at its box with the narrower slack of the scale, and one that is refused
-//! may not with the wider one.
+//! The one contract: a node that is passed may stand at its box with the narrower slacks, and one that is refused may not with
+//! the wider ones. Those for the centre are the scale's, and those for the corners the one that is asked for and sixteen times it.
 #![tactic(auto)]
 
 mod claims;
@@ -10,7 +10,7 @@ mod testing;
 mod word_tests;
 
 pub use claims::{may_stand, pass_node, reason_of};
-pub use shown::{first_shown, is_shown, is_shut};
+pub use shown::{first_shown, is_corner_shown, is_shown, is_shut};
 pub use testing::prepare;
 pub use word_tests::WordTests;
 

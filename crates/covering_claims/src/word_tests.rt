@@ -1,11 +1,14 @@
-ghost use Rattle.std.specs.Prelude.{◌≡◌, ◌↔◌, IsTrue, IfOk, IsErrOf};
+ghost use Rattle.std.specs.Prelude.{◌≡◌, ◌+◌, ◌-◌, ◌≤◌, ◌↔◌, IsTrue, IfOk, IsErrOf};
 ghost use Rattle.edge_words.specs.Stable.{IsStable};
 ghost use Rattle.rational_polygon.specs.Point.{Point};
 ghost use Rattle.rational_polygon.specs.Square.{IsInBox};
 ghost use Rattle.gradient_bounds.specs.Corridor.{HasCorridor};
 ghost use Rattle.gradient_bounds.specs.Clear.{slack, IsClear, IsShut};
+ghost use Rattle.gradient_bounds.specs.CornerClear.{IsCornerClear};
 ghost use Rattle.gradient_bounds.specs.declared.fault.PrepareFault.TheVariants.{Unstable};
 
+use corner_bounds::test_corners;
+use covering_file::LEAST_CORNER_LEVEL;
 use directed_fixed::Scale;
 use edge_words::Word;
 use gradient_bounds::{PrepareFault, Prepared};
@@ -48,6 +51,20 @@ impl<S: Scale> WordTests<S> {
         ensures corridor { IsTrue result → (p : Point) → IsInBox place p → HasCorridor self.old p.x p.y }
     {
         self.prepared.test_box(place)
+    }
+
+    /// Whether the word is seen, at the corners of the box with the slack `2^-low`, to have a corridor at every point of the box.
+    /// Below level 10 nothing is asked.
+    pub fn is_corner_clear(&mut self, place: GridBox, low: u32) -> bool
+        requires low_least { 12 ≤ low }
+        requires low_most { low ≤ 40 }
+        requires room { low + 8 ≤ S.BITS }
+        ensures word { self.new ≡ self.old }
+        ensures clear { IsTrue result → IsCornerClear self.old place (slack low) }
+        ensures found { IsCornerClear self.old place (slack (low - 4)) → IsTrue result }
+        ensures corridor { IsTrue result → (p : Point) → IsInBox place p → HasCorridor self.old p.x p.y }
+    {
+        place.level >= LEAST_CORNER_LEVEL && test_corners(&mut self.prepared, place, low)
     }
 
     /// Whether the word is seen to have a corridor at no point of the box.

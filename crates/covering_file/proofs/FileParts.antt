@@ -1,7 +1,8 @@
 -- The parts of a covering file: they tell one value, and whole ones with a sure tree never offend.
-use Rattle.std.proofs.Common.{◌≡◌, ℕ, ◌≤◌, List, [], ◌∷◌, ◌++◌, length, codes, count_by, refl, sym, ap, subst, arith}
+use Rattle.std.proofs.Common.{◌≡◌, ℕ, zero, suc, ◌^◌, ◌<◌, ◌≤◌, List, [], ◌∷◌, ◌++◌, length, codes, count_by, refl, sym, ap, arith}
+use Rattle.rational_polygon.specs.Square.{Square}
 use Rattle.gradient_bounds.specs.Slacks as slacks
-use Rattle.mcb_ends.specs.Lines.{newline, IsShortLine}
+use Rattle.mcb_ends.specs.Lines.{newline}
 use Rattle.line_grammar.specs.declared.reason.Reason.TheVariants.{EndLine}
 use Rattle.line_grammar.specs.Form.{IsForm, whole_line}
 use Rattle.line_grammar.specs.Laws.{ValueIsOne, NeverOffends}
@@ -10,18 +11,18 @@ use Rattle.line_grammar.proofs.Counted.{lines_of_each}
 use Rattle.line_grammar.proofs.Forms.{whole_is_form}
 use Rattle.line_grammar.proofs.Laws.{Any, AreSure, line_is_one, line_never, both_are_one, both_never, turns_are_one, turns_never, seen_is_one}
 use Rattle.line_grammar.proofs.Laws.{seen_never, text_never}
-use Rattle.line_grammar.proofs.Lines.{lacks_byte}
+use Rattle.line_grammar.proofs.Lines.{lacks_byte, two_fields-short}
 use Rattle.covering_file.specs.declared.file_kind.FileKind.TheVariants.{Cover}
 use Rattle.covering_file.specs.declared.node.Node.{Node}
 use Rattle.covering_file.specs.CheckClaims.{check_claims}
 use Rattle.covering_file.specs.DueBoxes.{due_boxes}
-use Rattle.covering_file.specs.FilePart.{Claims, first_box, node_part, nodes_part, due_end, tree_lines, tree_part, whole_file}
+use Rattle.covering_file.specs.FilePart.{Claims, first_box, node_part, nodes_part, due_end, tree_lines, tree_part, file_part, whole_file}
 use Rattle.covering_file.specs.Header.{Heading}
 use Rattle.covering_file.specs.HeaderPart.{header_part}
 use Rattle.covering_file.specs.Node.{is_uncovered, node_line, end_line}
 use Rattle.covering_file.proofs.HeaderLaws.{header_value_is_one, header_never}
 use Rattle.covering_file.proofs.NodeLines.{sound_is_covered}
-use Rattle.covering_file.proofs.NodeParts.{IsSureAfter, node_is_one, node_never}
+use Rattle.covering_file.proofs.NodeParts.{IsSureAfter, NeverHas, node_is_one, node_never}
 use Rattle.covering_file.proofs.NodesSaid.{node_due}
 
 -- the end line that is due after these nodes
@@ -41,48 +42,78 @@ none_uncovered limit h before [] said = refl
 none_uncovered limit h before (n ∷ nodes) said =
     rw (sound_is_covered h slacks.sound (first_box (due_boxes before)) n said.1.stands, none_uncovered limit h (before ++ n ∷ []) nodes said.2) refl
 
-complete_short : IsShortLine (end_line 0)
-complete_short = record { one = lacks_byte newline (codes "end complete") refl; short = omega arith }
+-- ---- the end line
 
-pub end_after_is_form : (limit : ℕ) (h : Heading) (nodes : List Node) → (nodes_part check_claims limit h).Says nodes
-    → IsForm (whole_line (due_end nodes) EndLine)
-end_after_is_form limit h nodes says =
-    whole_is_form (due_end nodes) EndLine (subst (λ k. IsShortLine (end_line k)) (sym (none_uncovered limit h [] nodes says.0)) complete_short) (omega arith)
+pub end_line_is_form : (count : ℕ) → count < 2 ^ 32 → IsForm (whole_line (end_line count) EndLine)
+end_line_is_form zero few = whole_is_form (codes "end complete") EndLine (record {
+  one = lacks_byte newline
+      (codes "end complete") refl;
+  short = omega arith;
+}) (omega arith)
+end_line_is_form (suc more) few =
+    whole_is_form (end_line (suc more)) EndLine
+    (two_fields-short (codes "end open") (suc more) (lacks_byte newline (codes "end open") refl) (omega arith) few) (omega arith)
+
+-- after nodes that may all stand, the end line is one
+abbrev pub EndsInForm : Claims → ℕ → Heading → Type 0
+EndsInForm claims limit h = (nodes : List Node) → (nodes_part claims limit h).Says nodes → IsForm (whole_line (due_end nodes) EndLine)
+
+pub check_ends : (limit : ℕ) (h : Heading) → EndsInForm check_claims limit h
+check_ends limit h nodes says =
+    end_line_is_form (count_by is_uncovered nodes) (omega (arith, none_uncovered limit h [] nodes says.0))
 
 -- ---- the tree
 
-pub nodes_are_one : (limit : ℕ) (h : Heading) → length h.words ≤ 32 → ValueIsOne (nodes_part check_claims limit h)
-nodes_are_one limit h few = turns_are_one node_due (node_part check_claims limit h) (λ l. node_is_one limit h l few)
+pub nodes_are_one : (claims : Claims) (limit : ℕ) (h : Heading) → length h.words ≤ 32 → ValueIsOne (nodes_part claims limit h)
+nodes_are_one claims limit h few = turns_are_one node_due (node_part claims limit h) (λ l. node_is_one claims limit h l few)
 
-nodes_never : (limit : ℕ) (h : Heading) (x : List ℕ) → length h.words ≤ 32 → NeverOffends (nodes_part check_claims limit h) (AreSure (IsSureAfter h) []) x
-nodes_never limit h x few =
-    turns_never node_due (node_part check_claims limit h) (IsSureAfter h) x (λ l. node_is_one limit h l few) (λ l y. node_never limit h l y few)
+nodes_never : (claims : Claims) (Sure : Heading → Square → Node → Type 0) (limit : ℕ) (h : Heading) (x : List ℕ) → NeverHas claims Sure
+    → length h.words ≤ 32 → NeverOffends (nodes_part claims limit h) (AreSure (IsSureAfter Sure h) []) x
+nodes_never claims Sure limit h x never few =
+    turns_never node_due (node_part claims limit h) (IsSureAfter Sure h) x (λ l. node_is_one claims limit h l few)
+    (λ l y. node_never claims Sure limit h l y never few)
 
-tree_one : (limit : ℕ) (h : Heading) → length h.words ≤ 32 → ValueIsOne (tree_part check_claims limit h)
-tree_one limit h few =
-    seen_is_one (followed_by (nodes_part check_claims limit h) end_after) (nodes_part check_claims limit h).Says tree_lines
+tree_one : (claims : Claims) (limit : ℕ) (h : Heading) → EndsInForm claims limit h → length h.words ≤ 32 → ValueIsOne (tree_part claims limit h)
+tree_one claims limit h ends few =
+    seen_is_one (followed_by (nodes_part claims limit h) end_after) (nodes_part claims limit h).Says tree_lines
     (λ (ns : List Node). let p : List Node × Unit {0} = (ns, tt) in p)
-    (both_are_one (nodes_part check_claims limit h) end_after (nodes_are_one limit h few) (λ ns says. line_is_one _ (end_after_is_form limit h ns says)))
-    (λ ns is. (is, tt)) (λ ns is. node_lines check_claims limit h ns) (λ ms ns p q is. ap (λ (v : List Node × Unit {0}). v.0) is)
+    (both_are_one (nodes_part claims limit h) end_after (nodes_are_one claims limit h few) (λ ns says. line_is_one _ (ends ns says)))
+    (λ ns is. (is, tt)) (λ ns is. node_lines claims limit h ns) (λ ms ns p q is. ap (λ (v : List Node × Unit {0}). v.0) is)
 
-tree_never : (limit : ℕ) (h : Heading) (x : List ℕ) → length h.words ≤ 32 → NeverOffends (tree_part check_claims limit h) (AreSure (IsSureAfter h) []) x
-tree_never limit h x few =
-    seen_never (followed_by (nodes_part check_claims limit h) end_after) (nodes_part check_claims limit h).Says tree_lines
-    (λ (ns : List Node). let p : List Node × Unit {0} = (ns, tt) in p) (λ p. AreSure (IsSureAfter h) [] p.0 × Any p.1) (AreSure (IsSureAfter h) []) x
-    (both_never (nodes_part check_claims limit h) end_after (AreSure (IsSureAfter h) []) (λ _. Any) x (nodes_are_one limit h few)
-    (λ y. nodes_never limit h y few)
-    (λ ns says. line_never _ (end_after_is_form limit h ns says) Any x))
-    (λ ns is. (is, tt)) (λ ns is. node_lines check_claims limit h ns) (λ ns _ sure. (sure, tt))
+tree_never : (claims : Claims) (Sure : Heading → Square → Node → Type 0) (limit : ℕ) (h : Heading) (x : List ℕ) → NeverHas claims Sure
+    → EndsInForm claims limit h → length h.words ≤ 32 → NeverOffends (tree_part claims limit h) (AreSure (IsSureAfter Sure h) []) x
+tree_never claims Sure limit h x never ends few =
+    seen_never (followed_by (nodes_part claims limit h) end_after) (nodes_part claims limit h).Says tree_lines
+    (λ (ns : List Node). let p : List Node × Unit {0} = (ns, tt) in p) (λ p. AreSure (IsSureAfter Sure h) [] p.0 × Any p.1)
+    (AreSure (IsSureAfter Sure h) []) x
+    (both_never (nodes_part claims limit h) end_after (AreSure (IsSureAfter Sure h) []) (λ _. Any) x (nodes_are_one claims limit h few)
+    (λ y. nodes_never claims Sure limit h y never few)
+    (λ ns says. line_never _ (ends ns says) Any x))
+    (λ ns is. (is, tt)) (λ ns is. node_lines claims limit h ns) (λ ns _ sure. (sure, tt))
 
 -- ---- the file
 
--- the nodes are sure after those before them
-abbrev pub IsSureValue : Heading × List Node → Type 0
-IsSureValue v = Any v.0 × AreSure (IsSureAfter v.0) [] v.1
+-- what is sure of the nodes after those before them
+abbrev pub IsSureValue : (Heading → Square → Node → Type 0) → Heading × List Node → Type 0
+IsSureValue Sure v = Any v.0 × AreSure (IsSureAfter Sure v.0) [] v.1
 
-pub file_never : (limit : ℕ) → NeverOffends (whole_file check_claims limit) IsSureValue []
-file_never limit =
-    both_never (header_part Cover) (λ h. whole_text (tree_part check_claims limit h)) Any (λ h. AreSure (IsSureAfter h) []) []
+pub file_never : (claims : Claims) (Sure : Heading → Square → Node → Type 0) (limit : ℕ) → NeverHas claims Sure
+    → ((h : Heading) → EndsInForm claims limit h) → NeverOffends (whole_file claims limit) (IsSureValue Sure) []
+file_never claims Sure limit never ends =
+    both_never (header_part Cover) (λ h. whole_text (tree_part claims limit h)) Any (λ h. AreSure (IsSureAfter Sure h) []) []
     (header_value_is_one Cover) (header_never Cover)
-    (λ h is. text_never (tree_part check_claims limit h) (AreSure (IsSureAfter h) []) (tree_one limit h is.word_count.1)
-    (λ x. tree_never limit h x is.word_count.1))
+    (λ h is. text_never (tree_part claims limit h) (AreSure (IsSureAfter Sure h) []) (tree_one claims limit h (ends h) is.word_count.1)
+    (λ x. tree_never claims Sure limit h x never (ends h) is.word_count.1))
+
+-- a file, and then the end of the text
+pub read_never : (claims : Claims) (Sure : Heading → Square → Node → Type 0) (limit : ℕ) (x : List ℕ) → NeverHas claims Sure
+    → ((h : Heading) → EndsInForm claims limit h) → NeverOffends (file_part claims limit) (IsSureValue Sure) x
+read_never claims Sure limit x never ends =
+    both_never (header_part Cover) (tree_part claims limit) Any (λ h. AreSure (IsSureAfter Sure h) []) x
+    (header_value_is_one Cover) (header_never Cover)
+    (λ h is. tree_never claims Sure limit h x never (ends h) is.word_count.1)
+
+pub file_value_is_one : (claims : Claims) (limit : ℕ) → ((h : Heading) → EndsInForm claims limit h) → ValueIsOne (file_part claims limit)
+file_value_is_one claims limit ends =
+    both_are_one (header_part Cover) (tree_part claims limit) (header_value_is_one Cover)
+    (λ h is. tree_one claims limit h (ends h) is.word_count.1)

@@ -22,7 +22,8 @@ use Rattle.covering_file.specs.Header.{IsVersion, IsVersionFor, first_line, corn
 
 pub version_fits : (version : ℕ) → IsVersion version → version < 2 ^ 32
 version_fits version (inl is) = omega (arith, is)
-version_fits version (inr is) = omega (arith, is)
+version_fits version (inr (inl is)) = omega (arith, is)
+version_fits version (inr (inr is)) = omega (arith, is)
 
 -- the version of a region is one
 pub some_version : (version polygons : ℕ) → IsVersionFor version polygons → IsVersion version
@@ -38,6 +39,10 @@ pub cover_in_2 : first_line Cover 2 ≡ codes "mcbcover 2"
 unfolding digits
 cover_in_2 = refl
 
+pub cover_in_3 : first_line Cover 3 ≡ codes "mcbcover 3"
+unfolding digits
+cover_in_3 = refl
+
 pub job_in_1 : first_line Job 1 ≡ codes "mcbjob 1"
 unfolding digits
 job_in_1 = refl
@@ -45,6 +50,10 @@ job_in_1 = refl
 pub job_in_2 : first_line Job 2 ≡ codes "mcbjob 2"
 unfolding digits
 job_in_2 = refl
+
+pub job_in_3 : first_line Job 3 ≡ codes "mcbjob 3"
+unfolding digits
+job_in_3 = refl
 
 cover_name : IsName (codes "mcbcover")
 cover_name = record { one_line = lacks_byte newline (codes "mcbcover") refl; one_field = lacks_byte space (codes "mcbcover") refl; short = omega arith }

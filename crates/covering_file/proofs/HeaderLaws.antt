@@ -152,7 +152,10 @@ polygon_one grid =
 
 count_one : (version : ℕ) → IsVersion version → ValueIsOne (count_part version)
 count_one version (inl is) = subst (λ (v : ℕ). ValueIsOne (count_part v)) (sym is) (without_is_one 1)
-count_one version (inr is) =
+count_one version (inr (inl is)) =
+    subst (λ (v : ℕ). ValueIsOne (count_part v)) (sym is)
+    (line_is_one (numbered_line (codes "regions") 1 MAX_POLYGONS) (regions_is_form 1 MAX_POLYGONS (omega arith)))
+count_one version (inr (inr is)) =
     subst (λ (v : ℕ). ValueIsOne (count_part v)) (sym is)
     (line_is_one (numbered_line (codes "regions") 1 MAX_POLYGONS) (regions_is_form 1 MAX_POLYGONS (omega arith)))
 
@@ -215,7 +218,10 @@ polygon_never grid x =
 
 count_never : (version : ℕ) → IsVersion version → (x : List ℕ) → NeverOffends (count_part version) Any x
 count_never version (inl is) x = subst (λ (v : ℕ). NeverOffends (count_part v) Any x) (sym is) (without_never 1 Any x)
-count_never version (inr is) x =
+count_never version (inr (inl is)) x =
+    subst (λ (v : ℕ). NeverOffends (count_part v) Any x) (sym is)
+    (line_never (numbered_line (codes "regions") 1 MAX_POLYGONS) (regions_is_form 1 MAX_POLYGONS (omega arith)) Any x)
+count_never version (inr (inr is)) x =
     subst (λ (v : ℕ). NeverOffends (count_part v) Any x) (sym is)
     (line_never (numbered_line (codes "regions") 1 MAX_POLYGONS) (regions_is_form 1 MAX_POLYGONS (omega arith)) Any x)
 
@@ -268,7 +274,9 @@ polygon_offence grid =
 
 count_offence : (version : ℕ) → IsVersion version → OffenceIsOne (count_part version).grammar
 count_offence version (inl is) = subst (λ (v : ℕ). OffenceIsOne (count_part v).grammar) (sym is) (without_offence_is_one {V = ℕ} 1)
-count_offence version (inr is) =
+count_offence version (inr (inl is)) =
+    subst (λ (v : ℕ). OffenceIsOne (count_part v).grammar) (sym is) (line_offence_is_one (numbered_line (codes "regions") 1 MAX_POLYGONS))
+count_offence version (inr (inr is)) =
     subst (λ (v : ℕ). OffenceIsOne (count_part v).grammar) (sym is) (line_offence_is_one (numbered_line (codes "regions") 1 MAX_POLYGONS))
 
 region_offence : (version : ℕ) → IsVersion version → OffenceIsOne (region_part version).grammar

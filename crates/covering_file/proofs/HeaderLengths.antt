@@ -25,7 +25,8 @@ polygons_length (p ∷ ps) all =
 
 count_length : (version count : ℕ) → IsVersionFor version count → length (count_lines version count) ≤ 1
 count_length version count (inl is) = subst (λ (v : ℕ). length (count_lines v count) ≤ 1) (sym is.0) (omega arith)
-count_length version count (inr is) = subst (λ (v : ℕ). length (count_lines v count) ≤ 1) (sym is) (omega arith)
+count_length version count (inr (inl is)) = subst (λ (v : ℕ). length (count_lines v count) ≤ 1) (sym is) (omega arith)
+count_length version count (inr (inr is)) = subst (λ (v : ℕ). length (count_lines v count) ≤ 1) (sym is) (omega arith)
 
 pub header_length : (kind : FileKind) (h : Heading) → IsHeading h → length (header_lines kind h) ≤ 173
 header_length kind h is =

@@ -140,7 +140,9 @@ grid_part = named_part (codes "grid") 1 MAX_GRID
 pub count_lines-of : (version count : ℕ) → IsVersion version → (count_part version).lines_of count ≡ count_lines version count
 count_lines-of version count (inl is) =
     subst (λ (v : ℕ). (count_part v).lines_of count ≡ count_lines v count) (sym is) refl
-count_lines-of version count (inr is) =
+count_lines-of version count (inr (inl is)) =
+    subst (λ (v : ℕ). (count_part v).lines_of count ≡ count_lines v count) (sym is) refl
+count_lines-of version count (inr (inr is)) =
     subst (λ (v : ℕ). (count_part v).lines_of count ≡ count_lines v count) (sym is) refl
 
 -- and its values are right for the version
@@ -148,13 +150,17 @@ pub count_within : (version count : ℕ) → IsVersion version → (count_part v
 count_within version count (inl is) says =
     let one : count ≡ 1 = subst (λ (v : ℕ). (count_part v).Says count) is says in
     ((omega (arith, one), omega (arith, one)), inl (is, one))
-count_within version count (inr is) says =
+count_within version count (inr (inl is)) says =
     let some : (1 ≤ count) × (count ≤ MAX_POLYGONS) = subst (λ (v : ℕ). (count_part v).Says count) is says in
-    (some, inr is)
+    (some, inr (inl is))
+count_within version count (inr (inr is)) says =
+    let some : (1 ≤ count) × (count ≤ MAX_POLYGONS) = subst (λ (v : ℕ). (count_part v).Says count) is says in
+    (some, inr (inr is))
 
 pub count_says : (version count : ℕ) → IsVersionFor version count → IsPolygonCount count → (count_part version).Says count
 count_says version count (inl is) within = subst (λ (v : ℕ). (count_part v).Says count) (sym is.0) is.1
-count_says version count (inr is) within = subst (λ (v : ℕ). (count_part v).Says count) (sym is) within
+count_says version count (inr (inl is)) within = subst (λ (v : ℕ). (count_part v).Says count) (sym is) within
+count_says version count (inr (inr is)) within = subst (λ (v : ℕ). (count_part v).Says count) (sym is) within
 
 pub grid_fails : (version : ℕ) (old new : Reader) (a b : Option (List ℕ)) (refusal : Option Refusal) → old.is_done ≡ false
     → FailsPart grid_part.grammar old new a b refusal → FailsPart (region_part version).grammar old new a b refusal

@@ -58,12 +58,16 @@ pub wants_new : {T : Type 0} (kind : FileKind) (reader : Reader) (left : Option 
     → IfErr result (WantsMemory kind (bytes_before reader left)) → IfErr result (WantsMemory kind left)
 wants_new kind reader left result new wants = subst (λ (input : Option (List ℕ)). IfErr result (WantsMemory kind input)) (new_bytes reader left new) wants
 
+-- a header that is read begins with its first line
+pub header_begins : (kind : FileKind) (h : Heading) (old new : Reader) (a b : Option (List ℕ)) → TakesPart (header_part kind) old new a b h
+    → BeginsHeader kind (bytes_before old a)
+header_begins kind h old new a b header =
+    begins_header kind h.version (region_lines h.version h.region ++ words_lines h.words ++ depth_part.lines_of h.depth) old new a b
+    (some_version h.version (length h.region) header.says.version) header.taken
+
 pub begins_new : (kind : FileKind) (h : Heading) (old new : Reader) (a b : Option (List ℕ)) → IsNew old → TakesPart (header_part kind) old new a b h
     → BeginsHeader kind a
-begins_new kind h old new a b is header =
-    subst (BeginsHeader kind) (new_bytes old a is)
-    (begins_header kind h.version (region_lines h.version h.region ++ words_lines h.words ++ depth_part.lines_of h.depth) old new a b
-    (some_version h.version (length h.region) header.says.version) header.taken)
+begins_new kind h old new a b is header = subst (BeginsHeader kind) (new_bytes old a is) (header_begins kind h old new a b header)
 
 -- ---- a line's fault in a job
 

@@ -16,9 +16,17 @@ pub mod Covers
 pub mod NodeLines
 pub mod NodeParts
 pub mod NodesSaid
+pub mod AreClaims
+pub mod NodeReasons
+pub mod NextNode
+pub mod Reached
 pub mod FileParts
 pub mod OneFile
 pub mod Sure
 pub mod Passed
 pub mod Accepted
+pub mod TreeParts
+pub mod TreeFiles
+pub mod EndLines
+pub mod Upgraded
 mod Stack

@@ -3,7 +3,6 @@ use Rattle.std.proofs.Common.{◌≡◌, inl, inr, ℕ, ◌≤◌, Bool, true, f
 use Rattle.std.proofs.Common.{refl, sym, ap, ◌∙◌, subst, arith, length-append, append_assoc}
 use Rattle.std.specs.Prelude.{is_some}
 use Rattle.rational_polygon.specs.Square.{Square, unit_square}
-use Rattle.gradient_bounds.specs.Slacks as slacks
 use Rattle.line_grammar.specs.Part.{AreSaid}
 use Rattle.line_grammar.proofs.Laws.{AreSure}
 use Rattle.covering_file.specs.declared.node.Node.{Node}
@@ -11,7 +10,6 @@ use Rattle.covering_file.specs.DueBoxes.{due_after, due_boxes, first_of, AreDue,
 use Rattle.covering_file.specs.FilePart.{Claims, first_box, node_part, nodes_part}
 use Rattle.covering_file.specs.Header.{Heading}
 use Rattle.covering_file.specs.Node.{IsNode}
-use Rattle.covering_file.specs.Sound.{IsSoundNode}
 use Rattle.covering_file.proofs.NodeParts.{IsSureAfter}
 use Rattle.covering_file.proofs.Trees.{AreDueFrom, due_behind, due_before}
 
@@ -19,7 +17,7 @@ use Rattle.covering_file.proofs.Trees.{AreDueFrom, due_behind, due_before}
 abbrev pub node_due : List Node → Bool
 node_due nodes = is_some (first_of (due_boxes nodes))
 
-due_more : (due : List Square) (nodes : List Node) (n : Node) → fold due_after due (nodes ++ n ∷ []) ≡ due_after (fold due_after due nodes) n
+pub due_more : (due : List Square) (nodes : List Node) (n : Node) → fold due_after due (nodes ++ n ∷ []) ≡ due_after (fold due_after due nodes) n
 due_more due [] n = refl
 due_more due (m ∷ nodes) n = due_more (due_after due m) nodes n
 
@@ -30,7 +28,8 @@ next_boxes before due n is = due_more (unit_square ∷ []) before n ∙ ap (λ (
 
 said_from_boxes : (claims : Claims) (limit : ℕ) (h : Heading) (before : List Node) (due : List Square) (nodes : List Node) → due_boxes before ≡ due
     → AreDueFrom due nodes
-    → ((box : Square) (n : Node) → StandsIn due nodes box n → IsNode (length h.words) n × claims.MayStand h box n) → length (before ++ nodes) ≤ limit
+    → ((box : Square) (n : Node) → StandsIn due nodes box n → IsNode (length h.words) h.version n × claims.MayStand h box n)
+    → length (before ++ nodes) ≤ limit
     → AreSaid node_due (node_part claims limit h) before nodes
 said_from_boxes claims limit h before due [] is are each within = tt
 said_from_boxes claims limit h before [] (n ∷ nodes) is are each within = absurd (are 0 (omega arith) refl)
@@ -52,25 +51,25 @@ none_due due is = ap (λ (boxes : List Square). is_some (first_of boxes)) is
 
 -- the nodes of a whole tree, each of which may stand at its box
 pub all_said : (claims : Claims) (limit : ℕ) (h : Heading) (nodes : List Node) → AreWhole nodes → length nodes ≤ limit
-    → ((box : Square) (n : Node) → StandsIn (unit_square ∷ []) nodes box n → IsNode (length h.words) n × claims.MayStand h box n)
+    → ((box : Square) (n : Node) → StandsIn (unit_square ∷ []) nodes box n → IsNode (length h.words) h.version n × claims.MayStand h box n)
     → (nodes_part claims limit h).Says nodes
 all_said claims limit h nodes whole within each =
     (said_from_boxes claims limit h [] (unit_square ∷ []) nodes refl whole.due each within, none_due (due_boxes nodes) whole.none_left)
 
-sure_from_boxes : (h : Heading) (before : List Node) (due : List Square) (nodes : List Node) → due_boxes before ≡ due → AreDueFrom due nodes
-    → ((box : Square) (n : Node) → StandsIn due nodes box n → IsSoundNode h slacks.sure box n) → AreSure (IsSureAfter h) before nodes
-sure_from_boxes h before due [] is are each = tt
-sure_from_boxes h before [] (n ∷ nodes) is are each = absurd (are 0 (omega arith) refl)
-sure_from_boxes h before (box ∷ others) (n ∷ nodes) is are each = (
-  subst (λ (boxes : List Square). IsSoundNode h slacks.sure (first_box boxes) n) (sym is) (each box n (inl (refl, refl))),
-  sure_from_boxes h (before ++ n ∷ []) (due_after (box ∷ others) n) nodes (next_boxes before (box ∷ others) n is)
+sure_from_boxes : (Sure : Heading → Square → Node → Type 0) (h : Heading) (before : List Node) (due : List Square) (nodes : List Node)
+    → due_boxes before ≡ due → AreDueFrom due nodes → ((box : Square) (n : Node) → StandsIn due nodes box n → Sure h box n)
+    → AreSure (IsSureAfter Sure h) before nodes
+sure_from_boxes Sure h before due [] is are each = tt
+sure_from_boxes Sure h before [] (n ∷ nodes) is are each = absurd (are 0 (omega arith) refl)
+sure_from_boxes Sure h before (box ∷ others) (n ∷ nodes) is are each = (
+  subst (λ (boxes : List Square). Sure h (first_box boxes) n) (sym is) (each box n (inl (refl, refl))),
+  sure_from_boxes Sure h (before ++ n ∷ []) (due_after (box ∷ others) n) nodes (next_boxes before (box ∷ others) n is)
       (due_behind (box ∷ others) n nodes are) (λ at m stands. each at m (inr stands)),
 )
 
-pub each_sure : (h : Heading) (nodes : List Node) → AreDue nodes
-    → ((box : Square) (n : Node) → StandsIn (unit_square ∷ []) nodes box n → IsSoundNode h slacks.sure box n)
-    → AreSure (IsSureAfter h) [] nodes
-each_sure h nodes due each = sure_from_boxes h [] (unit_square ∷ []) nodes refl due each
+pub each_sure : (Sure : Heading → Square → Node → Type 0) (h : Heading) (nodes : List Node) → AreDue nodes
+    → ((box : Square) (n : Node) → StandsIn (unit_square ∷ []) nodes box n → Sure h box n) → AreSure (IsSureAfter Sure h) [] nodes
+each_sure Sure h nodes due each = sure_from_boxes Sure h [] (unit_square ∷ []) nodes refl due each
 
 -- ---- from nodes to boxes
 
@@ -118,3 +117,16 @@ said_may_stand claims limit h nodes says box n stands = stands_from_said claims 
 
 pub said_within : (claims : Claims) (limit : ℕ) (h : Heading) (nodes : List Node) → (nodes_part claims limit h).Says nodes → length nodes ≤ limit
 said_within claims limit h nodes says = within_from_said claims limit h [] nodes says.0 (omega arith)
+
+node_from_said : (claims : Claims) (limit : ℕ) (h : Heading) (before : List Node) (due : List Square) (nodes : List Node) → due_boxes before ≡ due
+    → AreSaid node_due (node_part claims limit h) before nodes → (at : Square) (m : Node) → StandsIn due nodes at m → IsNode (length h.words) h.version m
+node_from_said claims limit h before due [] is said at m stands = absurd stands
+node_from_said claims limit h before [] (n ∷ nodes) is said at m stands = absurd stands
+node_from_said claims limit h before (box ∷ others) (n ∷ nodes) is said at m (inl here) =
+    subst (λ (k : Node). IsNode (length h.words) h.version k) (sym here.1) said.1.node
+node_from_said claims limit h before (box ∷ others) (n ∷ nodes) is said at m (inr later) =
+    node_from_said claims limit h (before ++ n ∷ []) (due_after (box ∷ others) n) nodes (next_boxes before (box ∷ others) n is) said.2 at m later
+
+pub said_is_node : (claims : Claims) (limit : ℕ) (h : Heading) (nodes : List Node) → (nodes_part claims limit h).Says nodes
+    → (box : Square) (n : Node) → StandsIn (unit_square ∷ []) nodes box n → IsNode (length h.words) h.version n
+said_is_node claims limit h nodes says box n stands = node_from_said claims limit h [] (unit_square ∷ []) nodes refl says.0 box n stands

@@ -54,3 +54,12 @@ file_text-lines h t =
     append_assoc (header_text Cover h) (tree_text t) (with_newline (end_line (uncovered_in t)))
     ∙ ap (λ (text : List ℕ). header_text Cover h ++ text) (tree_text-end t)
     ∙ sym (text_of-append (header_lines Cover h) (map node_line (preorder t) ++ due_end (preorder t) ∷ []))
+
+-- the text of a file's lines: the header, the nodes, the end line
+pub file_lines-parts : (h : Heading) (nodes : List Node)
+    → text_of (file_lines h nodes) ≡ header_text Cover h ++ (text_of (map node_line nodes) ++ with_newline (due_end nodes))
+file_lines-parts h nodes =
+    text_of-append (header_lines Cover h) (map node_line nodes ++ due_end nodes ∷ [])
+    ∙ ap (λ (text : List ℕ). header_text Cover h ++ text)
+    (text_of-append (map node_line nodes) (due_end nodes ∷ [])
+    ∙ ap (λ (text : List ℕ). text_of (map node_line nodes) ++ text) (append-nil (with_newline (due_end nodes))))

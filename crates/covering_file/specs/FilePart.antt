@@ -1,10 +1,11 @@
 -- A covering file, part by part: a header, a node for each box that is due, the end line, and nothing more.
-use Rattle.std.specs.Prelude.{◌≡◌, ℕ, ◌<◌, ◌≤◌, List, [], ◌∷◌, ◌++◌, map, length, count_by, is_some}
+use Rattle.std.specs.Prelude.{◌≡◌, ℕ, ◌<◌, ◌≤◌, List, [], ◌∷◌, ◌++◌, map, length, count_by, is_some, decimal}
 use Rattle.rational_polygon.specs.Square.{Square, unit_square}
 use Rattle.line_grammar.specs.declared.reason.Reason.{Reason}
 use Rattle.line_grammar.specs.declared.reason.Reason.TheVariants.{OtherLine, Number, EndLine, TooMany}
 use Rattle.line_grammar.specs.Form.{LineForm, whole_line}
 use Rattle.line_grammar.specs.Offence.{Grammar}
+use Rattle.line_grammar.specs.Text.{HasNoSpace}
 use Rattle.line_grammar.specs.Part.{Part, one_line, line_part, followed_by, in_turn, seen_as, whole_text}
 use Rattle.covering_file.specs.declared.file_kind.FileKind.TheVariants.{Cover}
 use Rattle.covering_file.specs.declared.node.Node.{Node}
@@ -13,14 +14,20 @@ use Rattle.covering_file.specs.Header.{Heading, header_lines}
 use Rattle.covering_file.specs.HeaderPart.{header_part}
 use Rattle.covering_file.specs.Node.{is_uncovered, node_line, end_line, IsNode, NodeHasForm, IsNodeLine}
 
--- why a line is not that of a node, in a file with so many words
-abbrev pub RefusesNode : ℕ → List ℕ → Reason → Type 0
-RefusesNode words line OtherLine = ¬ (NodeHasForm line)
-RefusesNode words line Number = NodeHasForm line × ¬ (IsNodeLine words line)
-RefusesNode words line reason = ⊥
+-- why a line is not that of a node, in a file with so many words, of this version
+abbrev pub RefusesNode : ℕ → ℕ → List ℕ → Reason → Type 0
+RefusesNode words version line OtherLine = ¬ (NodeHasForm version line)
+RefusesNode words version line Number = NodeHasForm version line × ¬ (IsNodeLine words version line)
+RefusesNode words version line reason = ⊥
 
-abbrev pub node_form : ℕ → LineForm Node
-node_form words = record { line_of = node_line; Says = IsNode words; Refuses = RefusesNode words }
+-- why a last field is not the number of a word, of so many
+abbrev pub RefusesWordNumber : ℕ → List ℕ → Reason → Type 0
+RefusesWordNumber words field OtherLine = ¬ (HasNoSpace field)
+RefusesWordNumber words field Number = HasNoSpace field × ¬ ((i : ℕ) × (1 ≤ i) × (i ≤ words) × (field ≡ decimal i))
+RefusesWordNumber words field reason = ⊥
+
+abbrev pub node_form : ℕ → ℕ → LineForm Node
+node_form words version = record { line_of = node_line; Says = IsNode words version; Refuses = RefusesNode words version }
 
 -- What is claimed of a node at a box, in a file with this heading: when it may stand there, and which reasons it can have
 -- and can lack there. A tree can be read with no claim.
@@ -38,23 +45,23 @@ first_box (box ∷ others) = box
 
 -- The line after these nodes can have a reason: that of its form, that of a claim, or that there are enough nodes.
 abbrev pub NodeHas : Claims → ℕ → Heading → List Node → List ℕ → Reason → Type 0
-NodeHas claims limit h nodes line OtherLine = RefusesNode (length h.words) line OtherLine
-NodeHas claims limit h nodes line Number = RefusesNode (length h.words) line Number
+NodeHas claims limit h nodes line OtherLine = RefusesNode (length h.words) h.version line OtherLine
+NodeHas claims limit h nodes line Number = RefusesNode (length h.words) h.version line Number
 NodeHas claims limit h nodes line TooMany = limit ≤ length nodes
 NodeHas claims limit h nodes line reason =
-    (n : Node) × IsNode (length h.words) n × (line ≡ node_line n) × claims.Has h (first_box (due_boxes nodes)) n reason
+    (n : Node) × IsNode (length h.words) h.version n × (line ≡ node_line n) × claims.Has h (first_box (due_boxes nodes)) n reason
 
 -- and can lack it
 abbrev pub NodeLacks : Claims → ℕ → Heading → List Node → List ℕ → Reason → Type 0
-NodeLacks claims limit h nodes line OtherLine = ¬ (RefusesNode (length h.words) line OtherLine)
-NodeLacks claims limit h nodes line Number = ¬ (RefusesNode (length h.words) line Number)
+NodeLacks claims limit h nodes line OtherLine = ¬ (RefusesNode (length h.words) h.version line OtherLine)
+NodeLacks claims limit h nodes line Number = ¬ (RefusesNode (length h.words) h.version line Number)
 NodeLacks claims limit h nodes line TooMany = ¬ (limit ≤ length nodes)
 NodeLacks claims limit h nodes line reason =
-    (n : Node) → IsNode (length h.words) n → line ≡ node_line n → claims.Lacks h (first_box (due_boxes nodes)) n reason
+    (n : Node) → IsNode (length h.words) h.version n → line ≡ node_line n → claims.Lacks h (first_box (due_boxes nodes)) n reason
 
 -- a node that may stand after these: it is one of the file, within the limit, and may stand at its box
 pub record IsNodeAfter (claims : Claims) (limit : ℕ) (h : Heading) (nodes : List Node) (n : Node) : Type 0 where
-  pub node : IsNode (length h.words) n
+  pub node : IsNode (length h.words) h.version n
   pub within : length nodes < limit
   pub stands : claims.MayStand h (first_box (due_boxes nodes)) n
 

@@ -20,11 +20,11 @@ pub record Heading : Type 0 where
   pub depth : ℕ
 
 abbrev pub IsVersion : ℕ → Type 0
-IsVersion version = (version ≡ 1) ⊎ (version ≡ 2)
+IsVersion version = (version ≡ 1) ⊎ (version ≡ 2) ⊎ (version ≡ 3)
 
--- version 1 has one polygon, version 2 any region
+-- version 1 has one polygon, versions 2 and 3 any region
 abbrev pub IsVersionFor : ℕ → ℕ → Type 0
-IsVersionFor version polygons = ((version ≡ 1) × (polygons ≡ 1)) ⊎ (version ≡ 2)
+IsVersionFor version polygons = ((version ≡ 1) × (polygons ≡ 1)) ⊎ (version ≡ 2) ⊎ (version ≡ 3)
 
 pub record IsStableWord (w : List ℕ) : Type 0 where
   pub word : IsWord w

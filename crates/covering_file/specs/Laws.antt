@@ -1,5 +1,5 @@
 -- What follows from the definitions alone.
-use Rattle.std.specs.Prelude.{◌≡◌, ℕ, ◌↔◌, List, [], ◌∷◌, ◌++◌, All, length}
+use Rattle.std.specs.Prelude.{◌≡◌, ◌⊎◌, ℕ, ◌^◌, ◌<◌, ◌↔◌, List, [], ◌∷◌, ◌++◌, All, length}
 use Rattle.rational_polygon.specs.Point.{Point}
 use Rattle.rational_polygon.specs.Square.{Square, unit_square, IsInBox}
 use Rattle.rational_polygon.specs.Region.{IsInRegion}
@@ -7,11 +7,11 @@ use Rattle.gradient_bounds.specs.Corridor.{HasCorridor}
 use Rattle.gradient_bounds.specs.Slacks.{Slacks}
 use Rattle.covering_file.specs.declared.file_kind.FileKind.{FileKind}
 use Rattle.covering_file.specs.declared.node.Node.{Node}
-use Rattle.covering_file.specs.declared.node.Node.TheVariants.{Shown}
+use Rattle.covering_file.specs.declared.node.Node.TheVariants.{Shown, Corner}
 use Rattle.line_grammar.specs.declared.reason.Reason.{Reason}
 use Rattle.line_grammar.specs.Offence.{IsFirstOffence}
 use Rattle.line_grammar.specs.Text.{text_of}
-use Rattle.covering_file.specs.Header.{Heading, IsHeading, header_text, job_text}
+use Rattle.covering_file.specs.Header.{Heading, IsHeading, header_text, job_text, IsVersion}
 use Rattle.covering_file.specs.Faults.{word_at, IsListed}
 use Rattle.covering_file.specs.Node.{IsNode}
 use Rattle.covering_file.specs.HeaderPart.{header_part, job_part}
@@ -21,6 +21,7 @@ use Rattle.covering_file.specs.Sound.{IsSound, IsSure}
 use Rattle.covering_file.specs.Covering.{IsCovered, IsCovering}
 use Rattle.covering_file.specs.CheckClaims.{check_claims}
 use Rattle.covering_file.specs.FilePart.{nodes_part, file_lines}
+use Rattle.covering_file.specs.TreeFile.{TreeFile, IsTreeOf, IsTreeFile, tree_file_text, whole_tree_file, upgraded}
 use Rattle.covering_file.specs.Verdicts.{IsFileWith, IsAccepted, IsRefused, IsSureFile}
 
 -- bytes that begin with the texts of two headers begin with one
@@ -56,10 +57,10 @@ TreeIsOne = (s t : Tree) → preorder s ≡ preorder t → s ≡ t
 abbrev pub StandingIsDue : Type 0
 StandingIsDue = (t : Tree) (box : Square) (node : Node) → StandsAt unit_square t box node ↔ StandsIn (unit_square ∷ []) (preorder t) box node
 
--- where the tree of a file is sound, each point of the region lies in a box of a leaf that is shown
+-- where the tree of a file is sound, each point of the region lies in a box of a leaf that is shown, or shown at its corners
 abbrev pub SoundCovers : Type 0
 SoundCovers = (h : Heading) (t : Tree) → IsHeading h → IsSound h t → (p : Point) → IsInRegion h.region p
-    → (box : Square) × (i : ℕ) × StandsAt unit_square t box (Shown i) × IsInBox box p
+    → (box : Square) × (i : ℕ) × (StandsAt unit_square t box (Shown i) ⊎ StandsAt unit_square t box (Corner i)) × IsInBox box p
 
 -- and has a corridor of the listed word for which it is shown
 abbrev pub SoundIsCovered : Type 0
@@ -79,7 +80,7 @@ FileTextIsLines = (h : Heading) (t : Tree) → file_text h t ≡ text_of (file_l
 
 -- bytes that begin with the texts of two files begin with one, where the word numbers of one of the trees are listed
 abbrev pub FileIsOne : Type 0
-FileIsOne = (g h : Heading) (s t : Tree) (x y : List ℕ) → IsHeading g → IsHeading h → All (IsNode (length g.words)) (preorder s)
+FileIsOne = (g h : Heading) (s t : Tree) (x y : List ℕ) → IsHeading g → IsHeading h → All (IsNode (length g.words) g.version) (preorder s)
     → file_text g s ++ x ≡ file_text h t ++ y → (g ≡ h) × (s ≡ t) × (x ≡ y)
 
 -- ---- verdicts
@@ -101,3 +102,18 @@ PassedIsAccepted = (limit : ℕ) (h : Heading) (nodes : List Node) → IsHeading
 -- no line of a file with a sure tree within the limit is refused
 abbrev pub SureIsNotRefused : Type 0
 SureIsNotRefused = (limit : ℕ) (bytes : List ℕ) (line : ℕ) (reason : Reason) → IsSureFile limit bytes → ¬ (IsRefused limit line reason bytes)
+
+-- ---- files that are read without being judged
+
+-- no line of a file with a tree within the limit offends where no box is judged, up to a limit of 2^32
+abbrev pub TreeFileNeverOffends : Type 0
+TreeFileNeverOffends = (limit : ℕ) (f : TreeFile) (line : ℕ) (reason : Reason) → limit < 2 ^ 32 → IsTreeFile limit f
+    → ¬ (IsFirstOffence (whole_tree_file limit).grammar (tree_file_text f) line reason)
+
+-- the tree of a file that is upgraded is sound exactly where it was before
+abbrev pub UpgradedIsSound : Type 0
+UpgradedIsSound = (limit version : ℕ) (h : Heading) (t : Tree) → IsVersion version → IsTreeOf limit h t → IsSound (upgraded version h) t ↔ IsSound h t
+
+-- and sure exactly where it was
+abbrev pub UpgradedIsSure : Type 0
+UpgradedIsSure = (limit version : ℕ) (h : Heading) (t : Tree) → IsVersion version → IsTreeOf limit h t → IsSure (upgraded version h) t ↔ IsSure h t

@@ -10,5 +10,7 @@ pub mod Sound
 pub mod Covering
 pub mod FilePart
 pub mod CheckClaims
+pub mod TreeFile
+pub mod TreeSteps
 pub mod Verdicts
 pub mod Laws

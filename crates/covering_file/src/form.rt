@@ -31,10 +31,11 @@ pub(crate) struct StableWord {
     pub alloc: Global,
 }
 
-/// The line of a node, in a file with so many words.
+/// The line of a node, in a file of this version with so many words.
 #[derive(Clone, Copy, Debug)]
 pub struct NodeLine {
     pub words: u32,
+    pub version: u8,
 }
 
 impl Form for FirstLine {
@@ -47,6 +48,8 @@ impl Form for FirstLine {
             Ok(1)
         } else if line == first_line(self.kind, 2) {
             Ok(2)
+        } else if line == first_line(self.kind, 3) {
+            Ok(3)
         } else {
             Err(Reason::OtherLine)
         }
@@ -60,9 +63,11 @@ fn first_line(kind: FileKind, version: u8) -> &'static [u8]
 {
     match (kind, version) {
         (FileKind::Cover, 1) => b"mcbcover 1",
-        (FileKind::Cover, _) => b"mcbcover 2",
+        (FileKind::Cover, 2) => b"mcbcover 2",
+        (FileKind::Cover, _) => b"mcbcover 3",
         (FileKind::Job, 1) => b"mcbjob 1",
-        (FileKind::Job, _) => b"mcbjob 2",
+        (FileKind::Job, 2) => b"mcbjob 2",
+        (FileKind::Job, _) => b"mcbjob 3",
     }
 }
 
@@ -112,9 +117,9 @@ impl Form for StableWord {
 impl Form for NodeLine {
     type Value = Node;
 
-    ghost form = { λ form. node_form form.words };
+    ghost form = { λ form. node_form form.words form.version };
 
     fn read(&self, line: &[u8]) -> Result<Node, Reason> {
-        read_node(line, self.words)
+        read_node(line, self.words, self.version)
     }
 }

@@ -11,7 +11,7 @@ use rational_polygon::{MAX_LEVEL, Region};
 use std::marker::Model;
 
 /// A region, 1 to 32 stable words and a depth from 0 to 20: what a covering is of, what it may use, and how deep its tree may be.
-/// And the version of the format in which this is said: version 1 has one polygon, version 2 any region.
+/// And the version of the format in which this is said: version 1 has one polygon, versions 2 and 3 any region.
 #[derive(Debug, Drop)]
 pub struct Header {
     version: u8,
@@ -57,7 +57,7 @@ impl Header {
         }
     }
 
-    /// The version of the format, 1 or 2.
+    /// The version of the format, from 1 to 3.
     pub fn version(&self) -> u8
         ensures value { result ≡ self.now.version }
         ensures is_heading { IsHeading self.now }
@@ -88,6 +88,31 @@ impl Header {
     {
         self.depth
     }
+
+    /// The version, the region, the words and the depth. It takes no memory.
+    pub fn parts(self) -> (u8, Region, Vec<Word>, u32)
+        ensures version { result.0 ≡ self.version }
+        ensures region { result.1 ≡ self.region }
+        ensures words { result.2.items ≡ self.words }
+        ensures depth { result.3 ≡ self.depth }
+        ensures is_heading { IsHeading self }
+    {
+        let Header {
+            version,
+            region,
+            words,
+            depth,
+        } = self;
+        (version, region, words, depth)
+    }
+
+    /// The same in another version of the format, in which a file may have its region. It takes no memory.
+    pub(crate) fn in_version(self, version: u8) -> Header
+        requires { IsVersionFor version (length self.region) }
+        ensures { result ≡ record { version = version; region = self.region; words = self.words; depth = self.depth } }
+    {
+        Header { version, ..self }
+    }
 }
 
 // Whether a file of this version may have so many polygons.
@@ -96,7 +121,7 @@ fn is_version_for(version: u8, polygons: usize) -> bool
 {
     match version {
         1 => polygons == 1,
-        2 => true,
+        2 | 3 => true,
         _ => false,
     }
 }

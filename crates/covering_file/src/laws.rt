@@ -5,6 +5,7 @@ ghost use Rattle.covering_file.specs.HeaderPart.{header_part, job_part};
 ghost use Rattle.covering_file.specs.Laws.{HeaderIsOne, NoHeaderPrefix, HeaderNeverOffends, JobNeverOffends, WholeIsTree, TreeIsOne, StandingIsDue};
 ghost use Rattle.covering_file.specs.Laws.{SoundCovers, SoundIsCovered, CoveredEverywhere, SureIsSound, FileTextIsLines, FileIsOne, PassedIsAccepted};
 ghost use Rattle.covering_file.specs.Laws.{AcceptedIsCovering, AcceptedIsOne, SureIsNotRefused};
+ghost use Rattle.covering_file.specs.Laws.{TreeFileNeverOffends, UpgradedIsSound, UpgradedIsSure};
 
 /// Bytes that begin with the texts of two headers begin with one.
 pub fn header_is_one()
@@ -47,7 +48,7 @@ pub fn standing_is_due()
     ensures { StandingIsDue }
 {}
 
-/// Where the tree of a file is sound, each point of the region lies in a box of a leaf that is shown.
+/// Where the tree of a file is sound, each point of the region lies in a box of a leaf that is shown, or shown at its corners.
 pub fn sound_covers()
     ensures { SoundCovers }
 {}
@@ -95,4 +96,19 @@ pub fn passed_is_accepted()
 /// No line of a file with a sure tree within the limit is refused.
 pub fn sure_is_not_refused()
     ensures { SureIsNotRefused }
+{}
+
+/// No line of a covering file offends where it is read without being judged.
+pub fn tree_file_never_offends()
+    ensures { TreeFileNeverOffends }
+{}
+
+/// The tree of a file that is upgraded is sound exactly where it was before.
+pub fn upgraded_is_sound()
+    ensures { UpgradedIsSound }
+{}
+
+/// And it is sure exactly where it was before.
+pub fn upgraded_is_sure()
+    ensures { UpgradedIsSure }
 {}

@@ -15,6 +15,7 @@ mod node;
 mod outline;
 mod reading;
 mod region;
+mod tree;
 mod walk;
 mod words;
 mod writing;
@@ -27,8 +28,15 @@ pub use job::read_job;
 pub use line_grammar::Reason;
 pub use node::{Node, read_node};
 pub use reading::read_header;
+pub use tree::{Tree, read_tree, write_tree};
 pub use walk::Walk;
 pub use writing::{write_end, write_header, write_node};
+
+/// The latest version of the format.
+pub const MAX_VERSION: u32 = 3;
+
+/// The least level of a box that is judged at its corners.
+pub const LEAST_CORNER_LEVEL: u32 = 10;
 
 /// How many words a file lists at most.
 pub const MAX_WORDS: u32 = 32;
@@ -40,3 +48,5 @@ pub const MAX_NODES: u32 = 2_000_000;
 mod node_tests;
 #[cfg(test)]
 mod tests;
+#[cfg(test)]
+mod tree_tests;

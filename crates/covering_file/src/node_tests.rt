@@ -97,7 +97,29 @@ fn reads_nodes(rt: HostRuntime) {
         (&[b's'; 81], 1, Err(Reason::OtherLine)),
     ];
     for (line, words, want) in rows {
-        assert_eq!(rt; read_node(line, words), want);
+        for version in [1, 2, 3] {
+            assert_eq!(rt; read_node(line, words, version), want);
+        }
+    }
+}
+
+// Corners are judged in version 3 alone.
+#[test]
+fn reads_corner_nodes(rt: HostRuntime) {
+    let rows: [(&[u8], u32, u8, Result<Node, Reason>); 10] = [
+        (b"q 1", 1, 3, Ok(Node::Corner(1))),
+        (b"q 32", 32, 3, Ok(Node::Corner(32))),
+        (b"q 1", 1, 1, Err(Reason::OtherLine)),
+        (b"q 1", 1, 2, Err(Reason::OtherLine)),
+        (b"q 2", 1, 3, Err(Reason::Number)),
+        (b"q 0", 1, 3, Err(Reason::Number)),
+        (b"q 01", 1, 3, Err(Reason::Number)),
+        (b"q 2", 1, 2, Err(Reason::OtherLine)),
+        (b"q  1", 1, 3, Err(Reason::OtherLine)),
+        (b"q", 1, 3, Err(Reason::OtherLine)),
+    ];
+    for (line, words, version, want) in rows {
+        assert_eq!(rt; read_node(line, words, version), want);
     }
 }
 
@@ -128,9 +150,10 @@ fn writes_end_lines(rt: HostRuntime) -> Result<(), Fail> {
     assert_eq!(rt; write_end(3, &mut out), Ok(()));
     assert_eq!(rt; write_node(Node::Uncovered, &mut out), Ok(()));
     assert_eq!(rt; write_node(Node::Shown(32), &mut out), Ok(()));
+    assert_eq!(rt; write_node(Node::Corner(7), &mut out), Ok(()));
     assert_eq!(rt;
         out.bytes(),
-        b"end complete\nend open 1\nend open 3\nu\nw 32\n".as_slice()
+        b"end complete\nend open 1\nend open 3\nu\nw 32\nq 7\n".as_slice()
     );
     Ok(())
 }
@@ -162,7 +185,7 @@ fn reads_what_was_written(rt: HostRuntime) -> Result<(), Fail> {
     let rows: [(u8, u32, &[(u32, u32)], &[&[u8]], u32); 3] = [
         (1, 384, &triangle, &[b"123123"], 7),
         (2, 64, &square, &[b"123123", b"1212312123"], 0),
-        (2, 1_048_576, &triangle, &[b"1212312123", b"1212312123"], 20),
+        (3, 1_048_576, &triangle, &[b"1212312123", b"1212312123"], 20),
     ];
     for (version, grid, corners, spelled, depth) in rows {
         let mut words = Vec::new(alloc);

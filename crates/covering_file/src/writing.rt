@@ -36,6 +36,7 @@ pub fn write_node<K: Sink>(node: Node, out: &mut K) -> Result<(), Failed>
         Node::Split => put(out, b"s\n"),
         Node::Outside => put(out, b"o\n"),
         Node::Shown(i) => write_named(b"w", i, out),
+        Node::Corner(i) => write_named(b"q", i, out),
         Node::Uncovered => put(out, b"u\n"),
     }
 }

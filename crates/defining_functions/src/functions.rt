@@ -109,7 +109,8 @@ impl Functions {
         ensures shift { HasShift self.now }
         ensures is { (v : FormalPoint) → IsShift self.now v → result ≡ pos (reach (defining_function v self.now k l)) }
         ensures limit { result ≤ℤ pos 4259840 }
-        ensures by_weight { (v : FormalPoint) → IsShift self.now v → reach (defining_function v self.now k l) ≤ 260 * weight (defining_function v self.now k l) }
+        ensures by_weight { (v : FormalPoint) → IsShift self.now v
+            → reach (defining_function v self.now k l) ≤ 260 * weight (defining_function v self.now k l) }
     {
         self.sizes(k, l).reach as i64
     }
@@ -121,7 +122,8 @@ impl Functions {
         ensures shift { HasShift self.now }
         ensures is { (v : FormalPoint) → IsShift self.now v → result ≡ pos (bend (defining_function v self.now k l)) }
         ensures limit { result ≤ℤ pos 553779200 }
-        ensures by_weight { (v : FormalPoint) → IsShift self.now v → bend (defining_function v self.now k l) ≤ 33800 * weight (defining_function v self.now k l) }
+        ensures by_weight { (v : FormalPoint) → IsShift self.now v
+            → bend (defining_function v self.now k l) ≤ 33800 * weight (defining_function v self.now k l) }
     {
         self.sizes(k, l).bend as i64
     }

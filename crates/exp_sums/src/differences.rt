@@ -52,7 +52,8 @@ fn of_second(term: Term) -> Leading
 fn first_of_difference(first: &[Term], second: &[Term]) -> Leading
     requires some { 0 < length first.now + length second.now }
     requires lists { CanSubtract first.now second.now }
-    ensures leads { difference_terms first.now second.now ≡ cons_term result.term (difference_terms (drop result.first first.now) (drop result.second second.now)) }
+    ensures leads { difference_terms first.now second.now
+        ≡ cons_term result.term (difference_terms (drop result.first first.now) (drop result.second second.now)) }
     ensures near { IsNear greatest_exponent result.term.dir }
     ensures some { 0 < result.first + result.second }
     ensures first { (result.first ≤ 1) × (result.first ≤ length first.now) }

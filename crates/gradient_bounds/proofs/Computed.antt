@@ -97,7 +97,8 @@ product_at_least (negsuc h) p r low low' = absurd low.le
 
 -- as it is computed
 pub dividend_at_least : (H from p P : ℤ) (reach : ℕ) → pos 0 ≤ℤ P → pos 0 ≤ℤ p → H ≡ P → from ≡ pos reach → pos 0 ≤ℤ (H *ℤ (from *ℤ p))
-dividend_at_least H from p P reach low low' H_is from_is = subst₂ (λ h r. pos 0 ≤ℤ (h *ℤ (r *ℤ p))) (sym H_is) (sym from_is) (product_at_least P p reach low low')
+dividend_at_least H from p P reach low low' H_is from_is =
+    subst₂ (λ h r. pos 0 ≤ℤ (h *ℤ (r *ℤ p))) (sym H_is) (sym from_is) (product_at_least P p reach low low')
 
 -- a drift is at least 0
 pub drift_at_least : (H : ℤ) (r : Neighbourhood) (reach : ℕ) → pos 0 ≤ℤ H → IsNeighbourhood r → pos 0 ≤ℤ drift_units H r reach

@@ -1,5 +1,6 @@
 -- The numbers of heights, edge by edge, by the numbers of forms.
-use Rattle.std.proofs.Common.{◌≡◌, sym, ap, ap₂, subst, ◌∙◌, ℕ, ◌+◌, ◌^◌, ◌<◌, ◌≤◌, List, length, get_or, set, slice_index_or, ℤ, pos, ◌+ℤ◌, ◌-ℤ◌, unsigned_abs, arith}
+use Rattle.std.proofs.Common.{◌≡◌, sym, ap, ap₂, subst, ◌∙◌, ℕ, ◌+◌, ◌^◌, ◌<◌, ◌≤◌}
+use Rattle.std.proofs.Common.{List, length, get_or, set, slice_index_or, ℤ, pos, ◌+ℤ◌, ◌-ℤ◌, unsigned_abs, arith}
 use Rattle.std.proofs.Common.{FitsSigned}
 use Rattle.std.specs.Int.{w128}
 use Rattle.std.specs.List.{All}
@@ -62,7 +63,8 @@ sum_fits a b h k = fits_128 (a +ℤ b) (omega (arith, ints))
 
 module _ (w : List ℕ) (table : List SineLow) (i : ℕ) (way : ℤ) (h : IsWayNumber w table i way) where
   -- the lower height's number, from the upper one's where the upper end is that of the edge before
-  pub below_upper : (upper : ℤ) → upper_corner w (i + 1) ≡ upper_corner w i → IsNumberOf w table (λ v. upper_height v w i) upper → (v : FormalPoint) → IsShift w v
+  pub below_upper : (upper : ℤ) → upper_corner w (i + 1) ≡ upper_corner w i → IsNumberOf w table (λ v. upper_height v w i) upper
+      → (v : FormalPoint) → IsShift w v
       → upper -ℤ way ≡ number_in table (lower_height v w (i + 1))
   below_upper upper same is v shift =
       let before : upper ≡ number_in table (upper_height v w (i + 1)) = is.is v shift ∙ ap (λ p. number_in table (height v w p)) (sym same) in

@@ -63,7 +63,8 @@ low_at_place (e ∷ es) d zero x rising below is = by_test (is_same_dir e.dir d)
     by_test : (b : Bool) → b ≡ true → e.low ≡ (if b then e.low else low_in es d)
     by_test b holds = rw holds refl
 low_at_place (e ∷ es) d (suc i) x rising below is =
-    by_test (is_same_dir e.dir d) refl (low_at_place es d i x (λ j k y lt in_range. rising (suc j) (suc k) y (omega (arith, lt)) (omega (arith, in_range))) (omega (arith, below)) is)
+    by_test (is_same_dir e.dir d) refl
+    (low_at_place es d i x (λ j k y lt in_range. rising (suc j) (suc k) y (omega (arith, lt)) (omega (arith, in_range))) (omega (arith, below)) is)
   where
     by_test : (b : Bool) → is_same_dir e.dir d ≡ b → (get_or es i x).low ≡ low_in es d → (get_or es i x).low ≡ (if b then e.low else low_in es d)
     by_test false apart later = later

@@ -133,8 +133,8 @@ pub record IsSomeTest (bits low high : ℕ) (pi : ℤ) (u : List ℕ) (us ls : L
   pub shut : SomeFallsBelow (needed bits low pi r) u us ls → SomeFunction now.word (IsShutIn (ball_of r) (slack low))
   pub found : SomeFunction now.word (IsShutIn (ball_of r) (slack high)) → SomeFallsBelow (needed bits low pi r) u us ls
 
-module _ (bits low high : ℕ) (L H : ℤ) (scale : IsScale bits low high L H) (w u : List ℕ) {s : HeightSums} (p : Option (Written × Written)) (table : List SineLow)
-    (us ls us' ls' : List ℤ) (h : IsPrepared bits w u s p table us ls) (us_is : us' ≡ us) (ls_is : ls' ≡ ls) where
+module _ (bits low high : ℕ) (L H : ℤ) (scale : IsScale bits low high L H) (w u : List ℕ) {s : HeightSums} (p : Option (Written × Written))
+    (table : List SineLow) (us ls us' ls' : List ℤ) (h : IsPrepared bits w u s p table us ls) (us_is : us' ≡ us) (ls_is : ls' ≡ ls) where
   tested : IsTested w table us ls
   tested = record { word = h.word; stable = h.stable; directions = h.directions; uppers = h.uppers; lowers = h.lowers }
 
@@ -336,7 +336,8 @@ module _ (bits : ℕ) (w u : List ℕ) {s : HeightSums} (p : Option (Written × 
 
 -- ---- a new one
 
-pub prepared_from : (bits : ℕ) (w v u f : List ℕ) (s : HeightSums) (table : List SineLow) (us ls us' ls' : List ℤ) → v ≡ w → u ≡ w → f ≡ u → IsWord u → IsStable w
+pub prepared_from : (bits : ℕ) (w v u f : List ℕ) (s : HeightSums) (table : List SineLow) (us ls us' ls' : List ℤ)
+    → v ≡ w → u ≡ w → f ≡ u → IsWord u → IsStable w
     → IsTableOf f table → All IsSmallEntry table → AreUppers f table us' → AreLowers f table ls' → us ≡ us' → ls ≡ ls'
     → IsHeightSums f (dirs_of table) s → IsPrepared bits v f s None table us ls
 prepared_from bits w v u f s table us ls us' ls' v_is u_is f_is word stable directions small uppers lowers us_is ls_is sums =

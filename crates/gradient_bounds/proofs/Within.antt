@@ -42,7 +42,7 @@ middles i l j m low high =
     (dyadic (i + 1) l) (dyadic (j + 1) m) c d h k (high, (from_end i l, (from_end j m, tt))))
 
 -- the lower left and the upper right corner of a box lie in it
-corner_within : (box : Square) → IsInBox box (box_corner box 0 0) × IsInBox box (box_corner box 1 1)
+pub corner_within : (box : Square) → IsInBox box (box_corner box 0 0) × IsInBox box (box_corner box 1 1)
 corner_within box =
     let across = rises box.i box.level in
     let up = rises box.j box.level in (

@@ -75,7 +75,8 @@ fn nearest(functions: &Functions, uppers: &[i128], lowers: &[i128]) -> (u32, u32
     ensures upper { IsPlace functions.now result.0 }
     ensures lower { IsPlace functions.now result.1 }
     ensures greatest { IsGreatest functions.now lowers.now result.1 }
-    ensures least { (i j : ℕ) → IsPlace functions.now i → IsPlace functions.now j → difference uppers.now lowers.now result.0 result.1 ≤ℤ difference uppers.now lowers.now i j }
+    ensures least { (i j : ℕ) → IsPlace functions.now i → IsPlace functions.now j
+        → difference uppers.now lowers.now result.0 result.1 ≤ℤ difference uppers.now lowers.now i j }
 {
     let letters = functions.letters();
     prove!(letters > 0);
@@ -189,7 +190,8 @@ fn each_in_row_reaches<S: Scale>(
     requires uppers { AreNumbers functions.now upper_height uppers.now }
     requires lowers { AreNumbers functions.now lower_height lowers.now }
     requires neighbourhood { IsNeighbourhood neighbourhood.now }
-    ensures { IsTrue result ↔ ((l : ℕ) → IsPlace functions.now l → Reaches (needed S.BITS S.LOW_BITS S.PI_HI neighbourhood.now) functions.now k l (difference uppers.now lowers.now k l)) }
+    ensures { IsTrue result ↔ ((l : ℕ) → IsPlace functions.now l
+        → Reaches (needed S.BITS S.LOW_BITS S.PI_HI neighbourhood.now) functions.now k l (difference uppers.now lowers.now k l)) }
 {
     let edges = functions.lower_edges();
     for &l in edges {
@@ -219,7 +221,8 @@ fn row_reaches<S: Scale>(
     requires uppers { AreNumbers functions.now upper_height uppers.now }
     requires lowers { AreNumbers functions.now lower_height lowers.now }
     requires neighbourhood { IsNeighbourhood neighbourhood.now }
-    ensures { IsTrue result ↔ ((l : ℕ) → IsPlace functions.now l → Reaches (needed S.BITS S.LOW_BITS S.PI_HI neighbourhood.now) functions.now k l (difference uppers.now lowers.now k l)) }
+    ensures { IsTrue result ↔ ((l : ℕ) → IsPlace functions.now l
+        → Reaches (needed S.BITS S.LOW_BITS S.PI_HI neighbourhood.now) functions.now k l (difference uppers.now lowers.now k l)) }
 {
     let least = difference(uppers, lowers, k, nearest);
     if is_at_least(least, most) {

@@ -1,5 +1,6 @@
 //! What follows from the definitions alone: each function's contract is a law. The program calls none.
-ghost use Rattle.gradient_bounds.specs.Laws.{ClearAtPointGivesCorridor, ClearGivesCorridor, ShutGivesNoCorridor, ShutGoesDown, ShutGoesToChildren, ShutIsNotClear, ClearWithLess};
+ghost use Rattle.gradient_bounds.specs.Laws.{ClearAtPointGivesCorridor, ClearGivesCorridor, ShutGivesNoCorridor};
+ghost use Rattle.gradient_bounds.specs.Laws.{ShutGoesDown, ShutGoesToChildren, ShutIsNotClear, ClearWithLess};
 
 /// A word that is clear at a triangle, with some slack above 0, has a corridor there.
 pub fn clear_at_point_gives_corridor()

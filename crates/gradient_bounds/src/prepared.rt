@@ -34,7 +34,7 @@ use directed_fixed::{Interval, Scale};
 use edge_words::Word;
 use rat_core::Frac;
 use rational_polygon::GridBox;
-use sine_fixed::over_one_denominator;
+use sine_fixed::SineTable;
 use std::alloc::{AllocError as OutOfMemory, Global};
 use std::marker::{Model, PhantomData};
 use unfolding::Unfolding;
@@ -49,6 +49,8 @@ pub struct Prepared<S: Scale> {
     /// Where the table was filled last.
     point: Option<(Frac, Frac)>,
     table: Vec<SineLow>,
+    /// What the table is filled from at the centres of boxes, if it is kept.
+    sine_table: Option<SineTable>,
     /// What the numbers of the heights are made from.
     sums: HeightSums,
     /// The numbers of the upper heights by the table, for each edge.
@@ -96,6 +98,7 @@ impl<S: Scale> Prepared<S> {
             functions,
             point: None,
             table,
+            sine_table: None,
             sums,
             uppers,
             lowers,
@@ -104,12 +107,14 @@ impl<S: Scale> Prepared<S> {
         })
     }
 
-    /// Makes the sizes of all functions and keeps them. Nothing else changes, but tests look the sizes up from then on: for a
-    /// word that is tested on many boxes.
+    /// Makes the sizes of all functions, and tables of sines, and keeps them. Nothing else changes, but from then on tests look
+    /// up the sizes, and at the centres of boxes the sines are made from the tables: for a word that is tested on many boxes.
     pub fn keep_sizes(&mut self, alloc: Global) -> Result<(), OutOfMemory>
         ensures { self.new ≡ self.old }
     {
-        self.functions.keep_sizes(alloc)
+        self.functions.keep_sizes(alloc)?;
+        self.sine_table = Some(SineTable::new(alloc)?);
+        Ok(())
     }
 
     /// The word.
@@ -138,8 +143,7 @@ impl<S: Scale> Prepared<S> {
         ensures word { self.new.word ≡ self.old.word }
         ensures point { self.new.point ≡ Some (x, y) }
     {
-        let at = over_one_denominator(x, y);
-        fill::<S>(&mut self.table, &at);
+        fill::<S>(&mut self.table, self.sine_table.as_ref(), x, y);
         self.sines = self.sines.saturating_add(self.table.len() as u64);
         self.sums.number(
             &mut self.uppers,

@@ -4,7 +4,7 @@ use Rattle.std.proofs.lemmas.Bool.{cases_lt}
 use Rattle.line_grammar.specs.declared.reason.Reason.{Reason}
 use Rattle.line_grammar.specs.declared.reason.Reason.TheVariants.{TooLong, Ends, OtherLine, Number, CornerOutside, NotConvex}
 use Rattle.line_grammar.specs.declared.reason.Reason.TheVariants.{NotAWord, UnstableWord, SplitTooDeep, NotApart, NotShown}
-use Rattle.line_grammar.specs.declared.reason.Reason.TheVariants.{Uncovered, EndLine, TooMany}
+use Rattle.line_grammar.specs.declared.reason.Reason.TheVariants.{Uncovered, EndLine, TooMany, TooShallow}
 use Rattle.line_grammar.specs.Form.{LineForm, IsForm}
 use Rattle.line_grammar.specs.Offence.{number_of, IsTooLong, EndsEarly, HaveReason, LackReason, IsLeast}
 use Rattle.line_grammar.specs.Text.{BeginsWith}
@@ -71,6 +71,7 @@ one_number_of NotShown NotShown is = refl
 one_number_of Uncovered Uncovered is = refl
 one_number_of EndLine EndLine is = refl
 one_number_of TooMany TooMany is = refl
+one_number_of TooShallow TooShallow is = refl
 one_number_of r s is = absurd (omega (arith, is))
 
 pub least_is_one : (has lacks : Reason → Type 0) → ((r : Reason) → has r → lacks r → ⊥) → (r s : Reason) → IsLeast has lacks r → IsLeast has lacks s → r ≡ s

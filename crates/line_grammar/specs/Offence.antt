@@ -5,7 +5,7 @@ use Rattle.line_grammar.specs.Text.{text_of, BeginsWith}
 use Rattle.line_grammar.specs.declared.reason.Reason.{Reason}
 use Rattle.line_grammar.specs.declared.reason.Reason.TheVariants.{TooLong, Ends, OtherLine, Number, CornerOutside, NotConvex}
 use Rattle.line_grammar.specs.declared.reason.Reason.TheVariants.{NotAWord, UnstableWord, SplitTooDeep, NotApart, NotShown}
-use Rattle.line_grammar.specs.declared.reason.Reason.TheVariants.{Uncovered, EndLine, TooMany}
+use Rattle.line_grammar.specs.declared.reason.Reason.TheVariants.{Uncovered, EndLine, TooMany, TooShallow}
 
 -- the number of a reason: where a line has several, the least is named
 abbrev pub number_of : Reason → ℕ
@@ -23,6 +23,7 @@ number_of NotShown = 11
 number_of Uncovered = 12
 number_of EndLine = 13
 number_of TooMany = 14
+number_of TooShallow = 15
 
 -- the next 81 bytes have no newline
 pub record IsTooLong (bytes : List ℕ) : Type 0 where

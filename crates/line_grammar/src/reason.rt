@@ -32,10 +32,12 @@ pub enum Reason {
     EndLine,
     /// It stands after the greatest number of nodes.
     TooMany,
+    /// The box is too large to be judged at its corners.
+    TooShallow,
 }
 
 impl Reason {
-    /// The number by which a refusal names the reason, from 1 to 14.
+    /// The number by which a refusal names the reason, from 1 to 15.
     pub fn number(self) -> u8
         ensures { result ≡ number_of self }
     {
@@ -54,6 +56,7 @@ impl Reason {
             Reason::Uncovered => 12,
             Reason::EndLine => 13,
             Reason::TooMany => 14,
+            Reason::TooShallow => 15,
         }
     }
 }

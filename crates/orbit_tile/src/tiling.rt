@@ -28,6 +28,9 @@ pub fn tile(alloc: Global, word: &Word, depth: u32, limit: u32) -> Result<Vec<Pa
     ensures unstable { IsErrOf result Unstable ↔ ¬ (IsStable word.now) }
 {
     let mut prepared = Prepared::<Fine>::new(alloc, word)?;
+    let Ok(()) = prepared.keep_sizes(alloc) else {
+        return Err(TileFault::Memory);
+    };
     patches(alloc, &mut prepared, depth, limit)
 }
 

@@ -1,6 +1,6 @@
 -- The coordinates of a sum, term by term.
 use Rattle.std.proofs.Common.{◌≡◌, refl, sym, ap, ◌∙◌, subst, ◌+◌, ◌*◌, ◌^◌, ◌<◌, ◌≤◌, ℕ, List, [], ◌∷◌, take, length, get_or}
-use Rattle.std.proofs.Common.{ℤ, pos, ◌+ℤ◌, ◌*ℤ◌, unsigned_abs, FitsSigned, lit<, arith}
+use Rattle.std.proofs.Common.{ℤ, pos, ◌+ℤ◌, ◌-ℤ◌, ◌*ℤ◌, ◌≤ℤ◌, unsigned_abs, FitsSigned, lit<, arith}
 use Rattle.std.specs.Int.{w64, w128}
 use Rattle.std.proofs.lemmas.Int.{ints, fits_signed_from_abs}
 use Rattle.std.proofs.lemmas.List.{take_more, take_all}
@@ -15,19 +15,21 @@ use Rattle.rat_core.proofs.Laws.{ℚ_ring, ℚ_ordered, over-mul, int-add, int-s
 use Rattle.rat_core.proofs.Order.{abs_le, cancel_le}
 use Rattle.exp_sums.specs.declared.direction.Dir.{Dir}
 use Rattle.exp_sums.specs.declared.terms.Term.{Term}
-use Rattle.exp_sums.specs.FormalPoint.{FormalPoint, terms}
+use Rattle.exp_sums.specs.FormalPoint.{FormalPoint, terms, monomial}
 use Rattle.exp_sums.specs.Limits.{terms_weight, weight}
-use Rattle.exp_sums.proofs.Weights.{terms_weight-cons, terms_weight-append}
+use Rattle.exp_sums.proofs.Weights.{terms_weight-cons, terms_weight-append, weight-monomial}
 use Rattle.trig_meaning.specs.Turn.{sine_of_turn}
 use Rattle.trig_meaning.specs.Value.{turn_of, first_coordinate, second_coordinate}
 use Rattle.trig_meaning.proofs.FromSomeOnLaws.{always, onward}
+use Rattle.trig_meaning.proofs.Coordinates.{first_coordinates_add_up_lem}
+use Rattle.trig_meaning.proofs.Values.{values_add_up_lem}
 use Rattle.directed_fixed.specs.Ends.{Encloses}
 use Rattle.directed_fixed.proofs.Rounding.{product_size}
 use Rattle.sine_fixed.proofs.Turning.{fits_128}
-use Rattle.sine_fixed.proofs.Weighing.{IsSumNear, around, nothing_around, one_more}
+use Rattle.sine_fixed.proofs.Weighing.{IsSumNear, around, from_low, wider, nothing_around, one_more}
 use Rattle.plane_points.specs.declared.spot.Spot.{Spot}
-use Rattle.plane_points.specs.Kept.{IsUnitSpot, IsSmallSpot}
-use Rattle.plane_points.specs.Spots.{TriangleAngles, in_units, IsSpotOf}
+use Rattle.plane_points.specs.Kept.{IsLowOf, IsUnitSpot, IsSmallSpot}
+use Rattle.plane_points.specs.Spots.{TriangleAngles, in_units, IsNearCoordinate, IsSpotOf}
 
 -- the coordinates of a direction at a triangle, by the n-th approximation
 abbrev pub first_of : TriangleAngles → ℕ → Dir → ℚ
@@ -171,3 +173,32 @@ no_term at ts = record {
   first_small = omega arith;
   second_small = omega arith;
 }
+
+-- ---- a single direction
+
+-- what lies from a number to 256 more is within 2^−52 of it
+low_is_near : (z : ℤ) (value coordinate : ℕ → ℚ) → ((n : ℕ) → coordinate n ≡ (pos 1 ÷ 1) *ℚ value n) → IsLowOf z value → IsNearCoordinate 1 z coordinate
+low_is_near z value coordinate same low =
+    onward
+    (λ n h.
+    subst (λ t. abs (in_units z -ℚ t) ≤ℚ whole 1 *ℚ (pos 1 ÷ 2 ^ 52)) (ring₁ ℚ_ring (λ v. v) (λ v. num 1 ⊠ v) refl (value n) ∙ sym (same n))
+    (within z 1 (value n) (wider 60 (from_low z) (around z 256) (value n) (lower z) (same_at_most (z +ℤ pos 256)) h))) low
+  where
+    lower : (z : ℤ) → (z -ℤ pos 256) ≤ℤ z
+    lower z = omega (arith, ints)
+
+    same_at_most : (z : ℤ) → z ≤ℤ z
+    same_at_most z = omega (arith, ints)
+
+pub unit_is_spot : (at : TriangleAngles) (d : Dir) (s : Spot) → IsUnitSpot at d s → IsSpotOf at (monomial (pos 1) d) s
+unit_is_spot at d s is =
+    let p = monomial (pos 1) d in
+    let x = value at.0 in
+    let y = value at.1 in
+    let one : 1 ≡ weight p = sym (weight-monomial (pos 1) d) in
+    record {
+      first = subst (λ k. IsNearCoordinate k s.x (λ n. first_coordinate n p x y)) one
+          (low_is_near s.x (λ n. first_of at n d) (λ n. first_coordinate n p x y) (λ n. first_coordinates_add_up_lem.of_term n (pos 1) d x y) is.first);
+      second = subst (λ k. IsNearCoordinate k s.y (λ n. second_coordinate n p x y)) one
+          (low_is_near s.y (λ n. second_of at n d) (λ n. second_coordinate n p x y) (λ n. values_add_up_lem.of_term n (pos 1) d x y) is.second);
+    }

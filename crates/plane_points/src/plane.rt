@@ -1,7 +1,8 @@
 //! The plane of a triangle.
-ghost use Rattle.std.specs.Prelude.{◌≡◌, ◌^◌, ◌≤◌};
+ghost use Rattle.std.specs.Prelude.{◌≡◌, ◌^◌, ◌≤◌, pos};
 ghost use Rattle.rat_core.specs.Fraction.{whole, ◌+ℚ◌, ◌<ℚ◌};
 ghost use Rattle.rat_core.specs.Written.{value};
+ghost use Rattle.exp_sums.specs.FormalPoint.{monomial};
 ghost use Rattle.exp_sums.specs.Limits.{IsNear, IsWithin};
 ghost use Rattle.plane_points.specs.Spots.{IsSpotOf, IsCrossProduct};
 ghost use Rattle.plane_points.specs.Kept.{IsUnitSpot, IsSmallSpot};
@@ -79,9 +80,10 @@ impl Plane {
         (self.spot(v), self.spot(d))
     }
 
-    /// The coordinates of a direction, each at most 256 units below its own.
-    fn unit(&self, dir: Dir) -> Spot
+    /// The coordinates of a direction, each at most 256 units below its own. A corner of the triangle itself is a direction.
+    pub fn unit(&self, dir: Dir) -> Spot
         requires { IsNear 1000 dir }
+        ensures spot { IsSpotOf self.now (monomial (pos 1) dir) result }
         ensures unit { IsUnitSpot self.now dir result }
         ensures size { IsSmallSpot (2 ^ 62) result }
     {

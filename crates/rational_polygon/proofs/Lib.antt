@@ -3,6 +3,7 @@ pub mod Centres
 pub mod Fan
 pub mod Grid
 pub mod Halves
+pub mod Lines
 pub mod Numbers
 pub mod Regions
 pub mod Separation

@@ -101,10 +101,8 @@ impl GridBox {
         ensures { IsTrue result ↔ IsBeyond self polygon.now }
     {
         let (grid, corners) = (polygon.grid(), polygon.corners());
-        let (left, below) = self.corner(0, 0);
-        let (right, above) = self.corner(1, 1);
-        is_beyond_across(grid, corners, &left, &right)
-            || is_beyond_up(grid, corners, &below, &above)
+        is_beyond_across(grid, corners, self.i, self.i + 1, self.level)
+            || is_beyond_up(grid, corners, self.j, self.j + 1, self.level)
     }
 
     fn is_right_of_an_edge(self, polygon: &Polygon) -> bool

@@ -1,6 +1,8 @@
 //! What follows from the definitions alone: each function's contract is a law.
-ghost use Rattle.rational_polygon.specs.Laws.{PolygonLiesInUnitSquare, EdgesImplyRectangle, ApartHoldsNone, ChildrenCover, ChildrenLieWithin, CornersAreTriangles, PointsAreTriangles};
-ghost use Rattle.rational_polygon.specs.Laws.{RegionLiesInUnitSquare, ApartRegionHoldsNone, RegionCornersAreTriangles, RegionPointsAreTriangles, OnePolygonIsRegion};
+ghost use Rattle.rational_polygon.specs.Laws.{PolygonLiesInUnitSquare, EdgesImplyRectangle, ApartHoldsNone};
+ghost use Rattle.rational_polygon.specs.Laws.{ChildrenCover, ChildrenLieWithin, CornersAreTriangles, PointsAreTriangles};
+ghost use Rattle.rational_polygon.specs.Laws.{RegionLiesInUnitSquare, ApartRegionHoldsNone};
+ghost use Rattle.rational_polygon.specs.Laws.{RegionCornersAreTriangles, RegionPointsAreTriangles, OnePolygonIsRegion};
 
 /// Every point of a polygon lies in the unit square.
 pub fn polygon_lies_in_unit_square()

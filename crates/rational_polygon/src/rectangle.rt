@@ -1,9 +1,11 @@
 //! The bounding rectangle of corners on a grid.
-ghost use Rattle.std.specs.Prelude.{◌≡◌, ◌↔◌, ◌<◌, ◌⊎◌, pos, All, Any, IsTrue};
-ghost use Rattle.rat_core.specs.Fraction.{◌≤ℚ◌, ◌<ℚ◌};
+ghost use Rattle.std.specs.Prelude.{◌≡◌, ◌↔◌, ◌<◌, ◌≤◌, ◌⊎◌, pos, All, Any, IsTrue};
+ghost use Rattle.rat_core.specs.Fraction.{◌÷◌, ◌≤ℚ◌, ◌<ℚ◌};
 ghost use Rattle.rat_core.specs.Written.{value};
 ghost use Rattle.rational_polygon.specs.Outline.{grid_point, IsInRectangle};
+ghost use Rattle.rational_polygon.specs.Square.{dyadic};
 
+use crate::MAX_LEVEL;
 use rat_core::Frac;
 
 /// The fraction `steps / grid`.
@@ -80,20 +82,96 @@ pub(crate) fn is_in_rectangle(grid: u32, corners: &[(u32, u32)], x: &Frac, y: &F
     is_within_across(grid, corners, x) && is_within_up(grid, corners, y)
 }
 
-/// Whether the rectangle lies strictly right of `right`, or strictly left of `left`.
-pub(crate) fn is_beyond_across(grid: u32, corners: &[(u32, u32)], left: &Frac, right: &Frac) -> bool
-    requires { 0 < grid }
-    ensures { IsTrue result ↔ (All (λ c. value right.now <ℚ (grid_point grid c).x) corners.now
-        ⊎ All (λ c. (grid_point grid c).x <ℚ value left.now) corners.now) }
+// Whether `n / 2^level` is less than `steps / grid`.
+fn is_before(n: u32, level: u32, grid: u32, steps: u32) -> bool
+    requires level { level ≤ MAX_LEVEL }
+    requires grid { 0 < grid }
+    ensures { IsTrue result ↔ (dyadic n level <ℚ pos steps ÷ grid) }
 {
-    !begins_left(grid, corners, right) || !ends_right(grid, corners, left)
+    u64::from(n) * u64::from(grid) < u64::from(steps) << level
 }
 
-/// Whether the rectangle lies strictly above `above`, or strictly below `below`.
-pub(crate) fn is_beyond_up(grid: u32, corners: &[(u32, u32)], below: &Frac, above: &Frac) -> bool
-    requires { 0 < grid }
-    ensures { IsTrue result ↔ (All (λ c. value above.now <ℚ (grid_point grid c).y) corners.now
-        ⊎ All (λ c. (grid_point grid c).y <ℚ value below.now) corners.now) }
+// Whether `n / 2^level` is greater than `steps / grid`.
+fn is_behind(n: u32, level: u32, grid: u32, steps: u32) -> bool
+    requires level { level ≤ MAX_LEVEL }
+    requires grid { 0 < grid }
+    ensures { IsTrue result ↔ (pos steps ÷ grid <ℚ dyadic n level) }
 {
-    !begins_below(grid, corners, above) || !ends_above(grid, corners, below)
+    u64::from(steps) << level < u64::from(n) * u64::from(grid)
+}
+
+// Whether the rectangle lies strictly right of `n / 2^level`.
+fn is_right_of_line(grid: u32, corners: &[(u32, u32)], n: u32, level: u32) -> bool
+    requires level { level ≤ MAX_LEVEL }
+    requires grid { 0 < grid }
+    ensures { IsTrue result ↔ All (λ c. dyadic n level <ℚ (grid_point grid c).x) corners.now }
+{
+    corners
+        .iter()
+        .all(|corner| is_before(n, level, grid, corner.0))
+}
+
+// Whether it lies strictly left of `n / 2^level`.
+fn is_left_of_line(grid: u32, corners: &[(u32, u32)], n: u32, level: u32) -> bool
+    requires level { level ≤ MAX_LEVEL }
+    requires grid { 0 < grid }
+    ensures { IsTrue result ↔ All (λ c. (grid_point grid c).x <ℚ dyadic n level) corners.now }
+{
+    corners
+        .iter()
+        .all(|corner| is_behind(n, level, grid, corner.0))
+}
+
+// Whether it lies strictly above `n / 2^level`.
+fn is_above_line(grid: u32, corners: &[(u32, u32)], n: u32, level: u32) -> bool
+    requires level { level ≤ MAX_LEVEL }
+    requires grid { 0 < grid }
+    ensures { IsTrue result ↔ All (λ c. dyadic n level <ℚ (grid_point grid c).y) corners.now }
+{
+    corners
+        .iter()
+        .all(|corner| is_before(n, level, grid, corner.1))
+}
+
+// Whether it lies strictly below `n / 2^level`.
+fn is_below_line(grid: u32, corners: &[(u32, u32)], n: u32, level: u32) -> bool
+    requires level { level ≤ MAX_LEVEL }
+    requires grid { 0 < grid }
+    ensures { IsTrue result ↔ All (λ c. (grid_point grid c).y <ℚ dyadic n level) corners.now }
+{
+    corners
+        .iter()
+        .all(|corner| is_behind(n, level, grid, corner.1))
+}
+
+/// Whether the rectangle lies strictly right of `right / 2^level`, or strictly left of `left / 2^level`.
+pub(crate) fn is_beyond_across(
+    grid: u32,
+    corners: &[(u32, u32)],
+    left: u32,
+    right: u32,
+    level: u32,
+) -> bool
+    requires level { level ≤ MAX_LEVEL }
+    requires grid { 0 < grid }
+    ensures { IsTrue result ↔ (All (λ c. dyadic right level <ℚ (grid_point grid c).x) corners.now
+        ⊎ All (λ c. (grid_point grid c).x <ℚ dyadic left level) corners.now) }
+{
+    is_right_of_line(grid, corners, right, level) || is_left_of_line(grid, corners, left, level)
+}
+
+/// Whether the rectangle lies strictly above `above / 2^level`, or strictly below `below / 2^level`.
+pub(crate) fn is_beyond_up(
+    grid: u32,
+    corners: &[(u32, u32)],
+    below: u32,
+    above: u32,
+    level: u32,
+) -> bool
+    requires level { level ≤ MAX_LEVEL }
+    requires grid { 0 < grid }
+    ensures { IsTrue result ↔ (All (λ c. dyadic above level <ℚ (grid_point grid c).y) corners.now
+        ⊎ All (λ c. (grid_point grid c).y <ℚ dyadic below level) corners.now) }
+{
+    is_above_line(grid, corners, above, level) || is_below_line(grid, corners, below, level)
 }

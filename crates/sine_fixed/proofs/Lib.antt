@@ -9,3 +9,6 @@ pub mod Sines
 pub mod Chains
 pub mod Turning
 pub mod Weighing
+pub mod Bounded
+pub mod TwoProducts
+pub mod SineTables

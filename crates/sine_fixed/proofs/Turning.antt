@@ -41,12 +41,12 @@ pub record IsCommon (x y : ℚ) (a : Angles) : Type 0 where
   pub first : first_angle a ≡ x
   pub second : second_angle a ≡ y
 
-numerator_nonneg : (X : ℤ) (d : ℕ) → 0 < d → whole 0 ≤ℚ X ÷ d → pos 0 ≤ℤ X
+pub numerator_nonneg : (X : ℤ) (d : ℕ) → 0 < d → whole 0 ≤ℚ X ÷ d → pos 0 ≤ℤ X
 numerator_nonneg X d p h =
     let above : (pos 0 *ℤ pos d) ≤ℤ (X *ℤ pos 1) = over_le_back (pos 0) X 1 d (lit< tt) p h in
     omega (arith, ints)
 
-numerator_within : (X : ℤ) (d : ℕ) → 0 < d → X ÷ d ≤ℚ whole 1 → X ≤ℤ pos d
+pub numerator_within : (X : ℤ) (d : ℕ) → 0 < d → X ÷ d ≤ℚ whole 1 → X ≤ℤ pos d
 numerator_within X d p h =
     let below : (X *ℤ pos 1) ≤ℤ (pos 1 *ℤ pos d) = over_le_back X (pos 1) d 1 p (lit< tt) h in
     omega (arith, ints)
@@ -120,7 +120,7 @@ unit_triangle x y a b c = (
 
 -- ---- turns
 
-numerator_over : (m n X Y : ℤ) (d : ℕ) → 0 < d → (m *ℤ X +ℤ n *ℤ Y) ÷ d ≡ (m ÷ 1) *ℚ (X ÷ d) +ℚ (n ÷ 1) *ℚ (Y ÷ d)
+pub numerator_over : (m n X Y : ℤ) (d : ℕ) → 0 < d → (m *ℤ X +ℤ n *ℤ Y) ÷ d ≡ (m ÷ 1) *ℚ (X ÷ d) +ℚ (n ÷ 1) *ℚ (Y ÷ d)
 numerator_over m n X Y d p =
     let left : (m *ℤ X +ℤ n *ℤ Y) ÷ d *ℚ whole d ≡ (m ÷ 1) *ℚ (X ÷ 1) +ℚ (n ÷ 1) *ℚ (Y ÷ 1) =
     over-mul (m *ℤ X +ℤ n *ℤ Y) d p ∙ int-add (m *ℤ X) (n *ℤ Y) ∙ ap₂ ◌+ℚ◌ (int-mul m X) (int-mul n Y)
@@ -182,7 +182,7 @@ small_turn m n a room angles =
 pub fits_128 : (z : ℤ) → unsigned_abs z ≤ 2 ^ 120 → FitsSigned w128 z
 fits_128 z h = fits_signed_from_abs w128 z (omega arith)
 
-fits_32 : (z : ℤ) → unsigned_abs z ≤ 4096 → FitsSigned w32 z
+pub fits_32 : (z : ℤ) → unsigned_abs z ≤ 4096 → FitsSigned w32 z
 fits_32 z h = fits_signed_from_abs w32 z (omega arith)
 
 pub angles_fit : (a : Angles) → IsAngles a → FitsSigned w128 a.den

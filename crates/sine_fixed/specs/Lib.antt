@@ -1,3 +1,4 @@
 pub mod ReferenceAngle
 pub mod Near
 pub mod Angles
+pub mod SineTables

@@ -6,10 +6,15 @@
 
 mod angles;
 mod directions;
+mod grid_angles;
 mod reduced;
 mod series;
+mod sine_cosine;
+mod sine_table;
 
 pub use angles::{Angles, over_one_denominator, turn_numerator};
 pub use directions::{direction_cosine, direction_sine};
+pub use grid_angles::GridAngles;
 pub use reduced::{Reduced, turn};
 pub use series::sine;
+pub use sine_table::SineTable;

@@ -1,10 +1,11 @@
-ghost use Rattle.std.specs.Prelude.{◌≡◌, ℕ, ◌+◌, ◌*◌, ◌/◌, ◌^◌, ◌≤◌, pos, ◌+ℤ◌, ◌≤ℤ◌};
+ghost use Rattle.std.specs.Prelude.{◌≡◌, ℕ, ◌+◌, ◌*◌, ◌/◌, ◌^◌, ◌≤◌, pos, ◌+ℤ◌, ◌≤ℤ◌, unsigned_abs};
 ghost use Rattle.rat_core.specs.Fraction.{ℚ, ◌÷◌, whole, ◌*ℚ◌, ◌≤ℚ◌};
 ghost use Rattle.trig_meaning.specs.PartialSums.{pi_sum, sine_sum};
 ghost use Rattle.trig_meaning.specs.FromSomeOn.{FromSomeOn};
 ghost use Rattle.directed_fixed.specs.Ends.{Encloses, IsWithin};
 ghost use Rattle.sine_fixed.specs.ReferenceAngle.{value, signed_value, sine_of};
 ghost use Rattle.sine_fixed.specs.Near.{IsNear};
+ghost use Rattle.sine_fixed.specs.SineTables.{IsClose};
 
 use crate::reduced::Reduced;
 use directed_fixed::{Interval, Scale};
@@ -41,6 +42,24 @@ pub fn sine<S: Scale>(t: Reduced) -> Interval<S>
     ensures size { IsWithin (3 * 2 ^ S.BITS) result }
 {
     with_sign::<S>(t.negative, enclosure::<S>(series(angle(&t))))
+}
+
+/// The sine of a reference angle with its sign as one number, in units of 2^-60: within 30 of the approximations of the sine
+/// from some one on.
+pub fn close_sine(t: Reduced) -> i64
+    ensures close { FromSomeOn (λ n. IsClose result (sine_of n t)) }
+    ensures size { unsigned_abs result ≤ 2 ^ 61 }
+{
+    signed(t.negative, series(angle(&t)) as i64)
+}
+
+/// `number`, or its negative.
+fn signed(negative: bool, number: i64) -> i64
+    requires { unsigned_abs number ≤ 2 ^ 61 }
+    ensures close { (v : ℚ) → IsClose number v → IsClose result (signed_value negative v) }
+    ensures size { unsigned_abs result ≤ 2 ^ 61 }
+{
+    if negative { -number } else { number }
 }
 
 /// `x`, or its negative.

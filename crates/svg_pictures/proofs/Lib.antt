@@ -10,3 +10,4 @@ pub mod Pictures
 pub mod Thirds
 pub mod OnePicture
 pub mod Differences
+pub mod BouncePoints

@@ -64,7 +64,7 @@ small_number z v w light off small =
     both : (z : ℤ) → z ≤ℤ pos (2 ^ 70) → neg_ℤ z ≤ℤ pos (2 ^ 70) → unsigned_abs z ≤ 2 ^ 70
     both z h k = omega (arith, ints, h, k)
 
-small_spot : (at : TriangleAngles) (p : FormalPoint) (s : Spot) → weight p ≤ 255 → IsSpotOf at p s → IsSmallSpot (2 ^ 70) s
+pub small_spot : (at : TriangleAngles) (p : FormalPoint) (s : Spot) → weight p ≤ 255 → IsSpotOf at p s → IsSmallSpot (2 ^ 70) s
 small_spot at p s light is = record {
   x = sized s.x (λ n. first_coordinate n p (value at.0) (value at.1)) (λ n late. first_size n late (value at.0) (value at.1) p) is.first;
   y = sized s.y (λ n. second_coordinate n p (value at.0) (value at.1)) (λ n late. second_size n late (value at.0) (value at.1) p) is.second;

@@ -3,5 +3,7 @@ pub mod Coordinates
 pub mod Drawn
 pub mod UnfoldingPicture
 pub mod Ends
+pub mod PathPicture
+pub mod BouncePoints
 pub mod TilePicture
 pub mod Laws

@@ -41,7 +41,7 @@ fn number_of_end(side: Side, edge: u8, j: usize) -> u8
 }
 
 /// The corner after `corner`, where 1 comes after 3.
-fn corner_after(corner: u8) -> u8
+pub(crate) fn corner_after(corner: u8) -> u8
     requires { IsCorner corner }
     ensures next { result ≡ next_corner corner }
     ensures corner { IsCorner result }

@@ -67,7 +67,7 @@ fn write_drawing<K: Sink>(
 }
 
 // The first line, with 100 units more on each side of the frame.
-fn write_frame<K: Sink>(frame: &Frame, out: &mut K) -> Result<(), Failed>
+pub(crate) fn write_frame<K: Sink>(frame: &Frame, out: &mut K) -> Result<(), Failed>
     ensures text { Writes (K.written out.old) (K.written out.new) result (frame_line frame.now) }
     ensures room { K.room out.new ≡ K.room out.old }
     ensures cause { HasCause (K.faults out.old) (K.faults out.new) result }
@@ -106,7 +106,7 @@ fn write_polygons<K: Sink>(triangles: &[DrawnTriangle], out: &mut K) -> Result<(
     Ok(())
 }
 
-fn write_polygon<K: Sink>(triangle: &DrawnTriangle, out: &mut K) -> Result<(), Failed>
+pub(crate) fn write_polygon<K: Sink>(triangle: &DrawnTriangle, out: &mut K) -> Result<(), Failed>
     ensures text { Writes (K.written out.old) (K.written out.new) result (polygon_line triangle.now) }
     ensures room { K.room out.new ≡ K.room out.old }
     ensures cause { HasCause (K.faults out.old) (K.faults out.new) result }
@@ -169,7 +169,7 @@ fn write_dot<K: Sink>(colour: &[u8], point: PicturePoint, out: &mut K) -> Result
     )
 }
 
-fn number(n: i32) -> Decimal
+pub(crate) fn number(n: i32) -> Decimal
     ensures { result ≡ signed_decimal n }
 {
     Decimal::signed(i64::from(n))

@@ -85,7 +85,8 @@ mirrors_multiple w zero x y =
     ∙ ring point_ring (mirrors w x ∷ v ∷ []) (var 0) (var 0 ⊞ num 0 ⊠ var 1) refl
 mirrors_multiple w (suc n) x y =
     let v = mirrors w y -ₚ mirrors w zero_point in
-    ap (mirrors w) (ap (λ t. x +ₚ t) (whole_point-suc n y) ∙ ring point_ring (x ∷ whole_point n *ₚ y ∷ y ∷ []) (var 0 ⊞ (var 1 ⊞ var 2)) (var 0 ⊞ var 1 ⊞ var 2) refl)
+    ap (mirrors w) (ap (λ t. x +ₚ t) (whole_point-suc n y)
+    ∙ ring point_ring (x ∷ whole_point n *ₚ y ∷ y ∷ []) (var 0 ⊞ (var 1 ⊞ var 2)) (var 0 ⊞ var 1 ⊞ var 2) refl)
     ∙ mirrors_sum w (x +ₚ whole_point n *ₚ y) y
     ∙ ap (λ t. t +ₚ v) (mirrors_multiple w n x y)
     ∙ ring point_ring (mirrors w x ∷ whole_point n *ₚ v ∷ v ∷ []) (var 0 ⊞ var 1 ⊞ var 2) (var 0 ⊞ (var 1 ⊞ var 2)) refl

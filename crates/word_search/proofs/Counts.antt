@@ -59,9 +59,9 @@ same_odd p q odd even are h stable x letter =
     let both = counts_odd x p q h in
     omega (arith, are.at_odd x letter, are.at_even x letter, stable x letter, both.0, both.1)
 
--- in a word that is searched for, no side of a prefix is ahead by more than there are places left on the other
+-- in a word that is searched for, the odd places of a prefix are ahead by no more than there are even places left
 fits : (n : ℕ) (p q odd even : List ℕ) → AreCounts p odd even → IsSearched n (p ++ q)
-    → (excess odd even ≤ n / 2 - length p / 2) × (excess even odd ≤ n / 2 - (length p + 1) / 2)
+    → excess odd even ≤ n / 2 - length p / 2
 fits n p q odd even are is =
     let long : length p + length q ≡ n = sym (length-append p q) ∙ is.count in
     let whole : n % 2 ≡ 0 = ap (λ m. m % 2) (sym is.count) ∙ is.is.is_word.even_length.even in
@@ -71,22 +71,17 @@ fits n p q odd even are is =
       | inl low ↦
           let h : length p % 2 ≡ 0 = omega arith in
           let up = made_up odd even (λ x. count_of x (at_odd_places q)) (λ x. count_of x (at_even_places q)) (same_even p q odd even are h is.is.stable) in
-          (omega (arith, up.0, at_even, h, long, whole), omega (arith, up.1, at_odd, h, long, whole))
+          omega (arith, up.0, at_even, h, long, whole)
       | inr high ↦
           let h : length p % 2 ≡ 1 = omega arith in
           let up = made_up odd even (λ x. count_of x (at_even_places q)) (λ x. count_of x (at_odd_places q)) (same_odd p q odd even are h is.is.stable) in
-          (omega (arith, up.0, at_odd, h, long, whole), omega (arith, up.1, at_even, h, long, whole))
+          omega (arith, up.0, at_odd, h, long, whole)
     ]
 
 pub left_by_odd : (n : ℕ) (p odd even : List ℕ) → AreCounts p odd even → n / 2 - length p / 2 < excess odd even → IsLeft n p
 left_by_odd n p odd even are over w is prefix =
     let fit = fits n p prefix.0 odd even are (subst (IsSearched n) prefix.1 is) in
-    omega (arith, fit.0, over)
-
-pub left_by_even : (n : ℕ) (p odd even : List ℕ) → AreCounts p odd even → n / 2 - (length p + 1) / 2 < excess even odd → IsLeft n p
-left_by_even n p odd even are over w is prefix =
-    let fit = fits n p prefix.0 odd even are (subst (IsSearched n) prefix.1 is) in
-    omega (arith, fit.1, over)
+    omega (arith, fit, over)
 
 -- no letters
 pub counts_none : (odd even : List ℕ) → ((x : ℕ) → IsLetter x → slice_index odd x ≡ 0) → ((x : ℕ) → IsLetter x → slice_index even x ≡ 0) → AreCounts [] odd even

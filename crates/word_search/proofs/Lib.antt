@@ -6,3 +6,11 @@ pub mod Lists
 pub mod Orders
 pub mod Prunings
 pub mod Results
+mod UnitCircle
+mod Crossings
+mod Numbered
+mod Placed
+mod Shown
+mod Walked
+mod Rounded
+mod Heights

@@ -1,5 +1,6 @@
 -- Orderings, and lexicographic order.
-use Rattle.std.proofs.Common.{◌≡◌, ℕ, ◌-◌, ◌<◌, List, [], ◌∷◌, ◌++◌, length, get_or, reverse, sym, ◌∙◌, ap, refl, arith, IsTrue, zero, suc}
+use Rattle.std.proofs.Common.{◌≡◌, ℕ, ◌-◌, ◌<◌, List, [], ◌∷◌, ◌++◌, length, get_or, reverse, drop, take, sym, ◌∙◌, ap, refl, arith, IsTrue, zero, suc, subst}
+use Rattle.std.proofs.Common.{length-append, length-drop, length-take}
 use Rattle.std.specs.Prelude.{◌↔◌}
 use Rattle.std.specs.Cmp.{nat_cmp_is}
 use Rattle.std.specs.declared.cmp.Ordering.{Ordering}
@@ -7,9 +8,9 @@ use Rattle.std.specs.declared.cmp.Ordering.TheVariants.{Less, Equal, Greater}
 use Rattle.std.specs.Ordering.{nat_cmp, ordering_then, is_le, is_lt}
 use Rattle.std.specs.Cmp.Lexicographic.{slice_cmp}
 use Rattle.std.proofs.lemmas.Cmp.{nat_list_cmp_total, tied_itself}
-use Rattle.std.proofs.lemmas.List.{get_or-reverse, length-reverse}
-use Rattle.edge_words.specs.Canonical.{IsAtMost}
-use Rattle.edge_words.proofs.Lexicographic.{slice_cmp-append, not_at_most_where_less}
+use Rattle.std.proofs.lemmas.List.{ext_get_or, get_or-reverse, length-reverse}
+use Rattle.edge_words.specs.Canonical.{IsAtMost, rotated}
+use Rattle.edge_words.proofs.Lexicographic.{slice_cmp-append, at_most_itself, at_most_where_less, not_at_most_where_less}
 use Rattle.word_search.specs.Cuts.{IsBefore}
 
 -- what is at most by both parts is so by the first
@@ -86,3 +87,15 @@ pub last_before : (o d : Ordering) → d ≡ Less → (ordering_then o (ordering
 last_before Less d h = (λ e. refl, λ e. refl)
 last_before Equal d h = (λ e. refl, λ e. ap (λ x. ordering_then x Equal) h)
 last_before Greater d h = (λ e. cc, λ e. cc)
+
+-- what comes before is at most
+pub at_most_where_before : (v u : List ℕ) → IsBefore v u → IsAtMost v u
+at_most_where_before v u h = at_most_where_less v u (ap is_lt h)
+
+-- a rotation has the length of the list
+pub length-rotated : (w : List ℕ) (by : ℕ) → by < length w → length (rotated by w) ≡ length w
+length-rotated w by h = omega (arith, h, length-append (drop by w) (take by w), length-drop by w, length-take by w)
+
+-- lists with the same letters
+pub at_most_where_same : (v u : List ℕ) → length v ≡ length u → ((k : ℕ) → k < length v → get_or v k 0 ≡ get_or u k 0) → IsAtMost v u
+at_most_where_same v u len same = subst (IsAtMost v) (ext_get_or 0 v u len same) (at_most_itself v)

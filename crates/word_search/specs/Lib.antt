@@ -1,4 +1,6 @@
 pub mod Cuts
+pub mod Places
 pub mod Prefixes
 pub mod Search
+pub mod Seen
 pub mod Words

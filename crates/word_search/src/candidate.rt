@@ -4,6 +4,7 @@ ghost use Rattle.edge_words.specs.Letters.{IsLetter};
 ghost use Rattle.word_search.specs.Words.{IsSearched};
 
 use crate::MAX_COUNT;
+use crate::least::is_least;
 use edge_words::Word;
 use std::alloc::Global;
 
@@ -14,6 +15,10 @@ pub(crate) fn searched(alloc: Global, letters: &[u8]) -> Option<Word>
     ensures { MatchOption result (¬ (IsSearched (length letters.now) letters.now))
         (λ word. (word ≡ letters.now) × IsSearched (length letters.now) letters.now) }
 {
+    let least = is_least(letters);
+    if !least {
+        return None;
+    }
     let mut buffer = [0u8; MAX_COUNT];
     for (index, letter) in letters.iter().enumerate() {
         buffer[index] = *letter + b'0';
@@ -23,10 +28,6 @@ pub(crate) fn searched(alloc: Global, letters: &[u8]) -> Option<Word>
     };
     let stable = word.is_stable();
     if !stable {
-        return None;
-    }
-    let canonical = word.is_canonical();
-    if !canonical {
         return None;
     }
     Some(word)

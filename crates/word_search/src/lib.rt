@@ -7,11 +7,17 @@
 mod backwards;
 mod balance;
 mod candidate;
+mod corners;
+mod extremes;
+mod least;
 mod listing;
-mod point;
+mod place;
+mod plane;
 mod prefix;
+mod seen;
 #[cfg(test)]
 mod tests;
+mod unit;
 mod walk;
 
 pub use listing::search;

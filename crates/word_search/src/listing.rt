@@ -4,7 +4,7 @@ ghost use Rattle.rat_core.specs.Fraction.{whole, ◌+ℚ◌, ◌<ℚ◌};
 ghost use Rattle.rat_core.specs.Written.{value};
 ghost use Rattle.word_search.specs.Search.{IsSearchResult};
 
-use crate::point::is_open;
+use crate::plane::Plane;
 use crate::walk::words;
 use edge_words::Word;
 use rat_core::Frac;
@@ -23,32 +23,22 @@ pub fn search(alloc: Global, x: Frac, y: Frac, bound: u32) -> Result<Vec<Word>, 
     requires bound { (6 ≤ bound) × (bound ≤ 24) × (bound % 2 ≡ 0) }
     ensures { IfOk result (λ found. IsSearchResult (value x) (value y) (λ w. length w ≤ bound) found.items) }
 {
+    let plane = Plane::at(alloc, x, y)?;
     let mut found = Vec::new(alloc);
     'half: for half in 3..bound / 2 + 1 {
-        pick(alloc, x, y, half * 2, &mut found)?;
+        pick(alloc, &plane, half * 2, &mut found)?;
     }
     Ok(found)
 }
 
 // Goes on from the words of fewer than `count` letters to those of `count`.
-fn pick(
-    alloc: Global,
-    x: Frac,
-    y: Frac,
-    count: u32,
-    found: &mut Vec<Word>,
-) -> Result<(), OutOfMemory>
-    requires first { whole 0 <ℚ value x }
-    requires second { whole 0 <ℚ value y }
-    requires third { value x +ℚ value y <ℚ whole 1 }
-    requires x_denominator { x.den ≤ 2 ^ 20 }
-    requires y_denominator { y.den ≤ 2 ^ 20 }
+fn pick(alloc: Global, plane: &Plane, count: u32, found: &mut Vec<Word>) -> Result<(), OutOfMemory>
     requires count { (6 ≤ count) × (count ≤ 24) × (count % 2 ≡ 0) }
-    requires shorter { IsSearchResult (value x) (value y) (λ w. length w < count) found.old.items }
-    ensures { IfOk result (λ _. IsSearchResult (value x) (value y) (λ w. length w < count + 2) found.new.items) }
+    requires shorter { IsSearchResult (value plane.now.0) (value plane.now.1) (λ w. length w < count) found.old.items }
+    ensures { IfOk result (λ _. IsSearchResult (value plane.now.0) (value plane.now.1) (λ w. length w < count + 2) found.new.items) }
 {
     'word: for word in words(alloc, count)? {
-        let open = is_open(alloc, &word, x, y)?;
+        let open = plane.shows(&word);
         if open {
             found.push(word)?;
         }

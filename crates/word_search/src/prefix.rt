@@ -74,9 +74,6 @@ impl Prefix {
         if is_over(&odd, &even, count / 2 - len / 2) {
             return None;
         }
-        if is_over(&even, &odd, count / 2 - (len + 1) / 2) {
-            return None;
-        }
         if is_before_reversed(&letters[..len]) {
             return None;
         }

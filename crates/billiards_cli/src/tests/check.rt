@@ -1,5 +1,7 @@
 use crate::Status;
-use crate::tests::fixtures::{arguments_of, assert_answer, assert_faults};
+use crate::tests::fixtures::{
+    arguments_of, assert_answer, assert_faults, assert_read_fault, assert_write_fault, joined,
+};
 use std::alloc::{AllocError, Global};
 use std::process::Abort;
 use std::test::Fail;
@@ -46,14 +48,6 @@ const BESIDE: &str = "polygon 3\n128 127\n128 128\n127 128\n";
 
 // In the box of the fourth node, which is said to be outside.
 const ELSEWHERE: &str = "polygon 3\n100 100\n101 100\n100 101\n";
-
-fn joined(alloc: Global, parts: &[&str]) -> Result<String, AllocError> {
-    let mut text = String::new(alloc);
-    for part in parts {
-        text.push_str(part)?;
-    }
-    Ok(text)
-}
 
 // The file with another text in one of its lines, counted from 1.
 fn with_line(alloc: Global, number: u32, text: &str) -> Result<String, AllocError> {
@@ -272,6 +266,28 @@ fn check_lays_faults_to_the_outside(rt: HostRuntime) -> Result<(), Fail> {
     let arguments = arguments_of(rt.alloc(), &["check"])?;
     let file = joined(rt.alloc(), &FILE)?;
     assert_faults(&rt, &arguments, file.as_bytes(), 16)?;
+    Ok(())
+}
+
+// Each read fails in turn: ten hand out 16 bytes and less, and one finds the end of the input.
+#[test]
+fn check_answers_each_failed_read(rt: HostRuntime) -> Result<(), Fail> {
+    let arguments = arguments_of(rt.alloc(), &["check"])?;
+    let file = joined(rt.alloc(), &FILE)?;
+    for call in 1..=11 {
+        assert_read_fault(&rt, &arguments, file.as_bytes(), call)?;
+    }
+    Ok(())
+}
+
+// Each byte of the answer fails in turn.
+#[test]
+fn check_answers_each_failed_write(rt: HostRuntime) -> Result<(), Fail> {
+    let arguments = arguments_of(rt.alloc(), &["check"])?;
+    let file = joined(rt.alloc(), &FILE)?;
+    for call in 1..=26 {
+        assert_write_fault(&rt, &arguments, file.as_bytes(), ACCEPTED, call)?;
+    }
     Ok(())
 }
 

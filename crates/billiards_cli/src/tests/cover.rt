@@ -1,4 +1,6 @@
-use crate::tests::fixtures::{arguments_of, assert_answer, assert_faults, sink, source};
+use crate::tests::fixtures::{
+    arguments_of, assert_answer, assert_faults, assert_write_fault, sink, source,
+};
 use crate::{Status, run};
 use std::test::Fail;
 
@@ -28,14 +30,16 @@ const GENERATED: &str =
     "mcbjob 1\ngrid 768\npolygon 3\n276 216\n276 276\n216 276\nwords 1\n123123\ndepth 10\nend\n";
 
 const GENERATED_COVER: &str =
-    "mcbcover 1\ngrid 768\npolygon 3\n276 216\n276 276\n216 276\nwords 1\n123123\ndepth 10\ns\ns\no\no\no\ns\ns\no\ns\no\nw 1\nw 1\nw 1\ns\no\nw 1\nw 1\nw 1\nw 1\no\no\no\no\no\no\nend complete\n";
+    "mcbcover 1\ngrid 768\npolygon 3\n276 216\n276 276\n216 276\nwords 1\n123123\ndepth 10\n\
+    s\ns\no\no\no\ns\ns\no\ns\no\nw 1\nw 1\nw 1\ns\no\nw 1\nw 1\nw 1\nw 1\no\no\no\no\no\no\nend complete\n";
 
 // Two polygons in one box of level 7, in version 2.
 const REGIONS: &str =
     "mcbjob 2\ngrid 384\nregions 2\npolygon 3\n127 127\n128 127\n127 128\npolygon 3\n128 127\n128 128\n127 128\nwords 1\n123123\ndepth 7\nend\n";
 
 const REGIONS_COVER: &str =
-    "mcbcover 2\ngrid 384\nregions 2\npolygon 3\n127 127\n128 127\n127 128\npolygon 3\n128 127\n128 128\n127 128\nwords 1\n123123\ndepth 7\ns\ns\no\no\no\ns\ns\no\no\no\nw 1\no\no\no\no\no\no\nend complete\n";
+    "mcbcover 2\ngrid 384\nregions 2\npolygon 3\n127 127\n128 127\n127 128\npolygon 3\n128 127\n128 128\n127 128\n\
+    words 1\n123123\ndepth 7\ns\ns\no\no\no\ns\ns\no\no\no\nw 1\no\no\no\no\no\no\nend complete\n";
 
 #[test]
 fn cover_writes_a_covering(rt: HostRuntime) -> Result<(), Fail> {
@@ -101,5 +105,15 @@ fn check_accepts_what_cover_completes(rt: HostRuntime) -> Result<(), Fail> {
 fn cover_lays_faults_to_the_outside(rt: HostRuntime) -> Result<(), Fail> {
     let arguments = arguments_of(rt.alloc(), &["cover"])?;
     assert_faults(&rt, &arguments, SMALL.as_bytes(), 16)?;
+    Ok(())
+}
+
+// The first byte of the covering fails, one of its header and the last one: those before it were written.
+#[test]
+fn cover_answers_a_failed_write(rt: HostRuntime) -> Result<(), Fail> {
+    let arguments = arguments_of(rt.alloc(), &["cover"])?;
+    for call in [1, 12, 126] {
+        assert_write_fault(&rt, &arguments, SMALL.as_bytes(), SMALL_COVER, call)?;
+    }
     Ok(())
 }

@@ -15,6 +15,15 @@ pub(crate) fn arguments_of(alloc: Global, arguments: &[&str]) -> Result<Args, Al
     Ok(args)
 }
 
+/// The text that is put together of these parts.
+pub(crate) fn joined(alloc: Global, parts: &[&str]) -> Result<String, AllocError> {
+    let mut text = String::new(alloc);
+    for part in parts {
+        text.push_str(part)?;
+    }
+    Ok(text)
+}
+
 /// A source that hands out at most `piece` bytes in a call, and fails in the calls with these numbers.
 pub(crate) fn source(
     alloc: Global,
@@ -79,5 +88,39 @@ pub(crate) fn assert_faults(
     );
     assert_eq!(rt; out.faults(), 1);
     assert_eq!(rt; out.bytes().len(), 0);
+    Ok(())
+}
+
+/// The source fails in its call of this number. Nothing is written.
+pub(crate) fn assert_read_fault(
+    rt: &(impl Abort + Alloc<A = Global>),
+    arguments: &Args,
+    input: &[u8],
+    call: u32,
+) -> Result<(), AllocError> {
+    let alloc = rt.alloc();
+    let mut src = source(alloc, input, 16, &[call])?;
+    let mut out = sink(alloc, &[])?;
+    let status = run(alloc, arguments, &mut src, &mut out);
+    assert_eq!(rt; status, Status::ReadFault, "call {call}");
+    assert_eq!(rt; out.bytes().len(), 0, "call {call}");
+    Ok(())
+}
+
+/// The sink takes one byte in a call, and fails in its call of this number. The bytes before it were written.
+pub(crate) fn assert_write_fault(
+    rt: &(impl Abort + Alloc<A = Global>),
+    arguments: &Args,
+    input: &[u8],
+    text: &str,
+    call: u32,
+) -> Result<(), AllocError> {
+    let alloc = rt.alloc();
+    let mut src = source(alloc, input, 16, &[])?;
+    let mut out = MemSink::new(alloc, 1000, 1, [call].to_vec(alloc)?)?;
+    let status = run(alloc, arguments, &mut src, &mut out);
+    assert_eq!(rt; status, Status::WriteFault, "call {call}");
+    assert_eq!(rt; out.bytes().len() + 1, call as usize, "call {call}");
+    assert!(rt; text.as_bytes().starts_with(out.bytes()), "call {call}");
     Ok(())
 }

@@ -5,7 +5,7 @@ use std::test::Fail;
 // Arguments that ask for nothing leave the input alone.
 #[test]
 fn other_arguments_are_a_wrong_use(rt: HostRuntime) -> Result<(), Fail> {
-    let rows: [&[&str]; 24] = [
+    let rows: [&[&str]; 28] = [
         &[],
         &["help"],
         &["check", "x"],
@@ -30,6 +30,10 @@ fn other_arguments_are_a_wrong_use(rt: HostRuntime) -> Result<(), Fail> {
         &["tile", "123123", "01"],
         &["tile", "123123", "1", "4"],
         &["upgrade", "1"],
+        &["upgrade", "4"],
+        &["upgrade", "02"],
+        &["upgrade"],
+        &["upgrade", "2", "2"],
     ];
     for arguments in rows {
         let arguments = arguments_of(rt.alloc(), arguments)?;

@@ -44,3 +44,16 @@ pub returns-in-FamilyAt-clause-serves : goal.returns-in-FamilyAt-clause-serves
 returns-in-FamilyAt-clause-serves g c =
     let s = g.S.Source in
     rw c.in-FamilyAt.is (c.family_at.ensures.serves (s.left c.args.src.now) (s.faults c.args.src.now))
+
+pub returns-in-Upgrade-clause-serves : goal.returns-in-Upgrade-clause-serves
+returns-in-Upgrade-clause-serves g c = rw c.in-Upgrade.is c.upgrade.ensures.serves
+
+pub returns-in-Path-clause-serves : goal.returns-in-Path-clause-serves
+returns-in-Path-clause-serves g c =
+    let s = g.S.Source in
+    rw c.in-Path.is (c.path.ensures.serves (s.left c.args.src.now) (s.faults c.args.src.now))
+
+pub returns-in-DrawnPath-clause-serves : goal.returns-in-DrawnPath-clause-serves
+returns-in-DrawnPath-clause-serves g c =
+    let s = g.S.Source in
+    rw c.in-DrawnPath.is (c.drawn_path.ensures.serves (s.left c.args.src.now) (s.faults c.args.src.now))

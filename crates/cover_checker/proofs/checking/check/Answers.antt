@@ -1,5 +1,5 @@
 -- A fault in the header, or the verdict after it, is one of the whole file.
-use Rattle.std.proofs.Common.{ap, refl, None, Some, List, ℕ}
+use Rattle.std.proofs.Common.{ap, None, Some}
 use Rattle.line_grammar.specs.Input.{IsNew}
 use Rattle.covering_file.specs.declared.file_kind.FileKind.TheVariants.{Cover}
 use Rattle.covering_file.specs.Faults.{head_refusal}

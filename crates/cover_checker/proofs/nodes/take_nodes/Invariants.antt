@@ -1,5 +1,7 @@
-use Rattle.std.proofs.Common.{◌≡◌, ◌-◌}
-use Rattle.cover_checker.proofs.Reached.{HasReached}
+use Rattle.std.proofs.Common.{◌≡◌, ◌+◌, ◌-◌, ◌≤◌, List, length}
+use Rattle.covering_file.specs.declared.node.Node.{Node}
+use Rattle.covering_file.specs.CheckClaims.{check_claims}
+use Rattle.covering_file.proofs.Reached.{HasReached}
 use Rattle.cover_checker.proofs.nodes.take_nodes.Given as goal
 
 -- so many nodes are taken
@@ -7,7 +9,11 @@ abbrev pub invariant-loop-place : goal.invariant-loop-place
 invariant-loop-place g l =
     let s = g.S.Source in
     record {
-      reached : HasReached l.limit l.header l.walk l.count l.fn.lines l.lines (s.left l.fn.src) (s.left l.src);
+      nodes : List Node;
+      counted : l.count ≡ length nodes;
+      reached : HasReached check_claims l.limit l.header l.walk nodes l.fn.lines l.lines (s.left l.fn.src) (s.left l.src);
+      within : l.count ≤ l.limit;
+      number : l.lines.number ≡ l.fn.lines.number + l.count;
       kept : l.tests ≡ l.fn.tests;
       cause : s.faults l.src ≡ s.faults l.fn.src;
     }

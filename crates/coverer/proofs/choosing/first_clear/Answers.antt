@@ -19,14 +19,14 @@ returns-then-is_clear-clause-first c = record {
 pub loop-i-preserved : goal.loop-i-preserved
 loop-i-preserved c = (
   c.is_clear.ensures.kept ∙ c.loop-i.invariant.0,
-  none_more c.args.tests.now c.loop-i.tests c.args.place slacks.findable.gradient c.loop-i.i c.loop-i.invariant.0 c.loop-i.invariant.1
-      c.if-is_clear.ensures.found,
+  none_more (λ (w : List ℕ). IsClear w c.args.place slacks.findable.gradient) c.args.tests.now c.loop-i.tests c.loop-i.i c.loop-i.invariant.0
+      c.loop-i.invariant.1 c.if-is_clear.ensures.found,
 )
 
 pub returns-else-is_clear-clause-first : goal.returns-else-is_clear-clause-first
 returns-else-is_clear-clause-first c i listed =
-    none_more c.args.tests.now c.loop-i.tests c.args.place slacks.findable.gradient c.loop-i.i c.loop-i.invariant.0 c.loop-i.invariant.1
-    c.if-is_clear.ensures.found i listed (omega (arith, listed.1))
+    none_more (λ (w : List ℕ). IsClear w c.args.place slacks.findable.gradient) c.args.tests.now c.loop-i.tests c.loop-i.i c.loop-i.invariant.0
+    c.loop-i.invariant.1 c.if-is_clear.ensures.found i listed (omega (arith, listed.1))
 
 pub is_clear-requires-clause-shut : goal.is_clear-requires-clause-shut
 is_clear-requires-clause-shut c = subst (λ (ts : List (List ℕ)). AreShutOut ts c.args.words c.args.place) (sym c.loop-i.invariant.0) c.requires.shut

@@ -3,7 +3,8 @@ use Rattle.std.proofs.Common.{refl, sym, ap, ◌∙◌, subst, ◌<◌, [], ◌�
 use Rattle.std.proofs.KnownBytes.{Appends-nil}
 use Rattle.std.proofs.lemmas.Result.{err_from_is_err_and}
 use Rattle.covering_file.specs.Node.{IsLeaf, is_uncovered}
-use Rattle.coverer.proofs.Lines.{wrote_one, failed_in_one, uncovered_more, uncovered_same, not_uncovered}
+use Rattle.covering_file.proofs.NodeLines.{not_uncovered}
+use Rattle.coverer.proofs.Lines.{wrote_one, failed_in_one, uncovered_more, uncovered_same}
 use Rattle.coverer.proofs.Reached.{HasReached, at_start, begun_next, next_reached, is_due_box, split_reached, after_leaf, leaf_if_not_split}
 use Rattle.coverer.proofs.nodes.write_nodes.Goals as goal
 

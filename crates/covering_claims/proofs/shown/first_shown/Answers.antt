@@ -17,11 +17,11 @@ returns-then-is_shown-clause-first g c = record {
 pub loop-i-preserved : goal.loop-i-preserved
 loop-i-preserved g c = (
   c.is_shown.ensures.kept ∙ c.loop-i.invariant.0,
-  none_more c.args.tests.now c.loop-i.tests c.args.place (slack g.S.Scale.HIGH_BITS) c.loop-i.i c.loop-i.invariant.0 c.loop-i.invariant.1
-      c.if-is_shown.ensures.found,
+  none_more (λ (w : List ℕ). IsClear w c.args.place (slack g.S.Scale.HIGH_BITS)) c.args.tests.now c.loop-i.tests c.loop-i.i c.loop-i.invariant.0
+      c.loop-i.invariant.1 c.if-is_shown.ensures.found,
 )
 
 pub returns-else-is_shown-clause-first : goal.returns-else-is_shown-clause-first
 returns-else-is_shown-clause-first g c i listed =
-    none_more c.args.tests.now c.loop-i.tests c.args.place (slack g.S.Scale.HIGH_BITS) c.loop-i.i c.loop-i.invariant.0 c.loop-i.invariant.1
-    c.if-is_shown.ensures.found i listed (omega (arith, listed.1))
+    none_more (λ (w : List ℕ). IsClear w c.args.place (slack g.S.Scale.HIGH_BITS)) c.args.tests.now c.loop-i.tests c.loop-i.i c.loop-i.invariant.0
+    c.loop-i.invariant.1 c.if-is_shown.ensures.found i listed (omega (arith, listed.1))

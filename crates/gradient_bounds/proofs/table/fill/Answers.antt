@@ -1,31 +1,15 @@
-use Rattle.std.proofs.Common.{◌<◌, FitsSigned, length, map, arith}
-use Rattle.std.specs.Int.{w128}
-use Rattle.std.proofs.lemmas.Int.{to_z-of_z}
-use Rattle.std.proofs.lemmas.List.Elements.{All-get_or, All-from_all_within, AllWithin-upto}
-use Rattle.exp_sums.specs.Limits.{IsNear}
-use Rattle.gradient_bounds.specs.declared.sine_low.SineLow.{SineLow}
-use Rattle.sine_fixed.specs.Angles.{first_angle, second_angle}
-use Rattle.gradient_bounds.specs.Kept.{IsSmallEntry}
-use Rattle.gradient_bounds.proofs.Sums.{next_entry}
+use Rattle.std.proofs.Common.{subst₂}
+use Rattle.std.specs.List.{All}
+use Rattle.rat_core.specs.Fraction.{ℚ}
+use Rattle.gradient_bounds.specs.Table.{IsLowAt}
 use Rattle.gradient_bounds.proofs.table.fill.Goals as goal
 
-pub low_sine-entry-requires-clause-near : goal.low_sine-entry-requires-clause-near
-low_sine-entry-requires-clause-near g c =
-    let below : c.loop-entry.entry-index < length c.loop-entry.table = omega (arith, c.loop-entry-test.true, c.loop-entry.auto.table) in
-    All-get_or (λ (e : SineLow). IsNear 130 e.dir) c.loop-entry.table c.loop-entry.entry-index _ below c.loop-entry.invariant.1
+pub returns-in-Some-Some-clause-lows : goal.returns-in-Some-Some-clause-lows
+returns-in-Some-Some-clause-lows g c =
+    subst₂ (λ (x y : ℚ). All (IsLowAt g.S.Scale.BITS x y) c.fill_on_grid.new.table) c.in-Some-Some.ensures.first c.in-Some-Some.ensures.second
+    c.fill_on_grid.ensures.lows
 
-pub loop-entry-preserved : goal.loop-entry-preserved
-loop-entry-preserved g c =
-    let at = c.args.at.now in
-    let below : c.loop-entry.entry-index < length c.loop-entry.table = omega (arith, c.loop-entry-test.true, c.loop-entry.auto.table) in
-    let fits : FitsSigned w128 c.low_sine-entry.result = record { sfits = c.low_sine-entry.type_inv } in
-    let before = c.loop-entry.invariant in
-    simp to_z-of_z
-    (next_entry g.S.Scale.BITS (first_angle at) (second_angle at) (map (λ (e : SineLow). e.dir) c.args.table.now) c.loop-entry.table c.loop-entry.entry-index
-    c.low_sine-entry.result below before.0 before.1 before.2 before.3 c.low_sine-entry.ensures.low c.low_sine-entry.ensures.size)
-
-pub returns-clause-small : goal.returns-clause-small
-returns-clause-small g c =
-    All-from_all_within IsSmallEntry c.loop-entry.table
-    (AllWithin-upto IsSmallEntry c.loop-entry.table 0 c.loop-entry.entry-index (length c.loop-entry.table)
-    (omega (arith, c.loop-entry-test.false, c.loop-entry.auto.table)) c.loop-entry.invariant.3)
+pub returns-in_default-clause-lows : goal.returns-in_default-clause-lows
+returns-in_default-clause-lows g c =
+    subst₂ (λ (x y : ℚ). All (IsLowAt g.S.Scale.BITS x y) c.fill_anywhere.new.table) c.over_one_denominator.ensures.first
+    c.over_one_denominator.ensures.second c.fill_anywhere.ensures.lows

@@ -1,5 +1,4 @@
-use Rattle.std.proofs.Common.{◌≡◌, ◌+◌, List, ℕ, length, get_or, take, refl, sym, ◌∙◌, subst, arith, length-set}
-use Rattle.edge_words.specs.Canonical.{IsCanonicalForm}
+use Rattle.std.proofs.Common.{◌≡◌, ◌+◌, length, get_or, take, refl, sym, ◌∙◌, subst, arith, length-set}
 use Rattle.edge_words.specs.Reading.{digits_of}
 use Rattle.edge_words.specs.Stable.{IsStable}
 use Rattle.edge_words.specs.Word.{IsWord}
@@ -29,13 +28,10 @@ returns-then-not-stable c = λ is.
     let not = c.if-not-stable.true in
     cc
 
-pub returns-then-not-canonical : goal.returns-then-not-canonical
-returns-then-not-canonical c = λ is.
-    let digits : take (length c.args.letters.now) c.loop-index.buffer ≡ digits_of c.args.letters.now = all_written c.loop-index.buffer c.args.letters.now
-    c.loop-index.index (omega arith) c.loop-index.invariant.written in
-    let same : c.in-Ok.word ≡ c.args.letters.now = read_back _ c.in-Ok.word c.args.letters.now digits c.in-Ok.ensures in
-    let canonical = c.is_canonical-canonical.ensures.1 (subst (λ (w : List ℕ). IsCanonicalForm w w) (sym same) is.is.canonical) in
-    let not = c.if-not-canonical.true in
+pub returns-then-not-least : goal.returns-then-not-least
+returns-then-not-least c = λ is.
+    let canonical = c.is_least-least.ensures.1 is.is.canonical in
+    let not = c.if-not-least.true in
     cc
 
 pub returns : goal.returns
@@ -48,7 +44,7 @@ returns c =
         is = record {
           is_word = subst IsWord same c.in-Ok.ensures.is_word;
           stable = subst IsStable same (c.is_stable-stable.ensures.0 c.if-not-stable.false);
-          canonical = subst (λ (w : List ℕ). IsCanonicalForm w w) same (c.is_canonical-canonical.ensures.0 c.if-not-canonical.false);
+          canonical = c.is_least-least.ensures.0 c.if-not-least.false;
         };
         count = refl;
       },

@@ -9,5 +9,5 @@ abbrev pub invariant-word : goal.invariant-word
 invariant-word l = record {
   left : l.word-iterator.rest.len ≡ length l.word-iterator.rest.items;
   words : IsListOfWords l.count (l.yielded ++ l.word-iterator.rest.items);
-  result : IsSearchResult (value l.x) (value l.y) (IsTested l.count l.yielded) l.found.items;
+  result : IsSearchResult (value l.plane.0) (value l.plane.1) (IsTested l.count l.yielded) l.found.items;
 }

@@ -2,7 +2,7 @@ use Rattle.std.proofs.Common.{◌≡◌, ◌∙◌, sym, ap, subst, subst₂, le
 use Rattle.std.proofs.lemmas.List.{take_at, length-map}
 use Rattle.std.specs.List.{All}
 use Rattle.gradient_bounds.specs.declared.sine_low.SineLow.{SineLow}
-use Rattle.gradient_bounds.specs.Table.{IsRising, IsTableOf, IsLowAt}
+use Rattle.gradient_bounds.specs.Table.{IsRising, IsTableOf}
 use Rattle.gradient_bounds.specs.HeightSums.{IsHeightSums, dirs_of}
 use Rattle.gradient_bounds.specs.Kept.{IsSmallEntry, AreUppers, AreLowers}
 use Rattle.gradient_bounds.proofs.Placing.{count_of_dirs}
@@ -71,8 +71,7 @@ invariant_of-self g c =
     let ls_is = take_at c.number.new.lowers (drop (length c.number.new.lowers) i.lowers.items) i.lowers.len ls_len in
     filled_again g.S.Scale.BITS i.word i.functions i.sums c.number.new.self i.point i.table.items c.fill.new.table _ i.uppers.items i.lowers.items
     c.number.new.uppers c.number.new.lowers _ _ c.args.x c.args.y c.self.invariant same
-    (subst₂ (λ x y. All (IsLowAt g.S.Scale.BITS x y) c.fill.new.table) c.over_one_denominator-at.ensures.first
-    c.over_one_denominator-at.ensures.second c.fill.ensures.lows)
+    c.fill.ensures.lows
     c.fill.ensures.small
     (subst (λ es. AreUppers i.functions es c.number.new.uppers) (c.deref.ensures.value ∙ table_is) c.number.ensures.uppers)
     (subst (λ es. AreLowers i.functions es c.number.new.lowers) (c.deref.ensures.value ∙ table_is) c.number.ensures.lowers)

@@ -6,6 +6,7 @@ use Rattle.trig_meaning.specs.Turn.{sine_of_turn}
 use Rattle.trig_meaning.specs.Value.{turn_of}
 use Rattle.sine_fixed.proofs.Weighing.{from_lower_end}
 use Rattle.plane_points.specs.Kept.{IsLowOf, IsUnitSpot}
+use Rattle.plane_points.proofs.Sums.{unit_is_spot}
 use Rattle.plane_points.proofs.plane.Plane.unit.Goals as goal
 
 pub returns-clause-unit : goal.returns-clause-unit
@@ -21,3 +22,6 @@ returns-clause-unit c =
           (from_lower_end 60 _ c.direction_sine.result c.lo-2.result c.direction_sine.ensures.encloses c.direction_sine.ensures.width c.lo-2.ensures.value);
     } in
     simp to_z-of_z (subst (λ (p : _ × _). IsUnitSpot p c.args.dir (record { x = c.lo.result; y = c.lo-2.result })) c.self.view_is spot)
+
+pub returns-clause-spot : goal.returns-clause-spot
+returns-clause-spot c = unit_is_spot c.args.self.now c.args.dir _ (returns-clause-unit c)

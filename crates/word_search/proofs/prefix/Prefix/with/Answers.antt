@@ -2,7 +2,7 @@ use Rattle.std.proofs.Common.{◌≡◌, ◌+◌, [], ◌∷◌, ◌++◌, lengt
 use Rattle.std.proofs.lemmas.List.{length_push}
 use Rattle.word_search.specs.Cuts.{IsBefore}
 use Rattle.word_search.specs.Prefixes.{AreCounts, IsBorder}
-use Rattle.word_search.proofs.Counts.{counts_few, left_by_even, left_by_odd}
+use Rattle.word_search.proofs.Counts.{counts_few, left_by_odd}
 use Rattle.word_search.proofs.Kept.{kept_more, letters_more}
 use Rattle.word_search.proofs.Prunings.{left_back}
 use Rattle.word_search.proofs.prefix.Prefix.with.Goals as goal
@@ -24,16 +24,6 @@ returns-then-is_over c =
     c.self.view_is (c.counted.ensures (take c.self.inside.len c.self.inside.letters) len c.self.invariant.counts) in
     let long : length p ≡ c.self.inside.len + 1 = length_push c.args.self.now c.args.letter ∙ ap (λ k. k + 1) (ap length (sym c.self.view_is) ∙ len) in
     left_by_odd c.args.count p c.counted.result.0 c.counted.result.1 counts (omega (arith, c.is_over.ensures.0 c.if-is_over.true, long))
-
-pub returns-then-is_over-2 : goal.returns-then-is_over-2
-returns-then-is_over-2 c =
-    let len : length (take c.self.inside.len c.self.inside.letters) ≡ c.self.inside.len =
-    length-take-le c.self.inside.len c.self.inside.letters (omega arith) in
-    let p = c.args.self.now ++ c.args.letter ∷ [] in
-    let counts : AreCounts p c.counted.result.0 c.counted.result.1 = subst (λ q. AreCounts (q ++ c.args.letter ∷ []) c.counted.result.0 c.counted.result.1)
-    c.self.view_is (c.counted.ensures (take c.self.inside.len c.self.inside.letters) len c.self.invariant.counts) in
-    let long : length p ≡ c.self.inside.len + 1 = length_push c.args.self.now c.args.letter ∙ ap (λ k. k + 1) (ap length (sym c.self.view_is) ∙ len) in
-    left_by_even c.args.count p c.counted.result.0 c.counted.result.1 counts (omega (arith, c.is_over-2.ensures.0 c.if-is_over-2.true, long))
 
 pub returns-then-is_before_reversed : goal.returns-then-is_before_reversed
 returns-then-is_before_reversed c =

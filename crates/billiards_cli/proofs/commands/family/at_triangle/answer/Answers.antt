@@ -1,4 +1,4 @@
-use Rattle.std.proofs.Common.{[], refl, inl, inr}
+use Rattle.std.proofs.Common.{[], refl, inr}
 use Rattle.line_grammar.specs.declared.reason.Reason.TheVariants.{UnstableWord}
 use Rattle.word_family.specs.Family.{IsStableFamily}
 use Rattle.billiards_cli.specs.Commands.Family.{RefusesUnstable, FamilyWantsMemory, members_text}

@@ -1,4 +1,4 @@
-use Rattle.std.proofs.Common.{refl, subst, arith}
+use Rattle.std.proofs.Common.{refl, subst}
 use Rattle.std.proofs.lemmas.List.{take_all}
 use Rattle.billiards_cli.specs.Commands.Family.{AreOpen}
 use Rattle.billiards_cli.proofs.FamilyAnswers.{open_more}

@@ -1,4 +1,4 @@
-use Rattle.std.proofs.Common.{◌≡◌, Ok, Bool, true, false, sym, ap, subst}
+use Rattle.std.proofs.Common.{Ok, sym, ap, subst}
 use Rattle.edge_words.specs.Stable.{IsStable}
 use Rattle.billiards_cli.specs.Commands.Family.{HasOtherLength}
 use Rattle.billiards_cli.proofs.FamilyAnswers.{tested_is}

@@ -1,0 +1,25 @@
+use Rattle.std.proofs.Common.{ℤ, ◌-ℤ◌, FitsSigned, subst₂, sym, unsigned_abs}
+use Rattle.std.specs.Int.{w128}
+use Rattle.std.proofs.lemmas.Int.{to_z-of_z}
+use Rattle.bounce_path.specs.Crossings.{IsRoundedDown}
+use Rattle.bounce_path.proofs.Parts.{FitDifferences, differences_fit}
+use Rattle.bounce_path.proofs.shares.least_share.Goals as goal
+
+pub returns : goal.returns
+returns c =
+    let crossing = c.args.crossing.now in
+    let level = c.args.level in
+    let near = c.requires.near in
+    let lower_is = c.hi-lower.ensures.value in
+    let upper_is = c.hi-upper.ensures.value in
+    let level_fits : FitsSigned w128 level = c.ranges.level in
+    let lower_fits : FitsSigned w128 c.hi-lower.result = record { sfits = c.hi-lower.type_inv } in
+    let upper_fits : FitsSigned w128 c.hi-upper.result = record { sfits = c.hi-upper.type_inv } in
+    let fit : FitDifferences level c.hi-lower.result c.hi-upper.result =
+    subst₂ (λ (m v : ℤ). FitDifferences level m v) (sym lower_is) (sym upper_is)
+    (differences_fit level crossing.lower.hi crossing.upper.hi crossing.lower.hi crossing.upper.lo near.lower.small.high near.upper.small.high
+    near.lower.small.high near.upper.small.low c.requires.inside.low c.requires.inside.high) in
+    let rise_fits = fit.rise in
+    let way_fits = fit.way in
+    subst₂ (λ (m v : ℤ). IsRoundedDown (unsigned_abs (level -ℤ m)) (unsigned_abs (v -ℤ m)) c.least_parts.result) lower_is upper_is
+    (simp to_z-of_z at c.least_parts.ensures)

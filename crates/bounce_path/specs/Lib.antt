@@ -1,0 +1,5 @@
+pub mod Level
+pub mod Bounces
+pub mod Path
+pub mod Crossings
+pub mod Faults

@@ -1,0 +1,97 @@
+use crate::{fold, overlay};
+use covering_claims::WordTests;
+use covering_file::Node;
+use covering_file::Node::{Outside, Shown, Split};
+use edge_words::Word;
+use pi_bounds::Coarse;
+use std::alloc::{AllocError, Global};
+use std::process::Abort;
+use std::test::Fail;
+
+// The nodes of a tree. Each letter is the line of one, and a digit that of the word of this number.
+fn nodes(alloc: Global, text: &str) -> Result<Vec<Node>, AllocError> {
+    let mut nodes = Vec::new(alloc);
+    for letter in text.bytes() {
+        nodes.push(match letter {
+            b's' => Node::Split,
+            b'o' => Node::Outside,
+            b'0'..=b'9' => Node::Shown(u32::from(letter - b'0')),
+            _ => Node::Uncovered,
+        })?;
+    }
+    Ok(nodes)
+}
+
+// Two trees, and their overlay.
+const OVERLAYS: [(&str, &str, &str); 8] = [
+    ("susuouooo", "ssououuoo", "ssouousuouooo"),
+    ("u", "soooo", "soooo"),
+    ("soooo", "u", "soooo"),
+    ("u", "u", "u"),
+    ("1", "soooo", "1"),
+    ("soooo", "2", "2"),
+    ("1", "2", "1"),
+    ("s1uuo", "su2uo", "s12uo"),
+];
+
+#[test]
+fn lays_trees_over_each_other(rt: HostRuntime) -> Result<(), Fail> {
+    let alloc = rt.alloc();
+    for (first, second, both) in OVERLAYS {
+        let first = nodes(alloc, first)?;
+        let second = nodes(alloc, second)?;
+        assert!(rt; first.len() <= 20 && second.len() <= 20);
+        let laid = overlay(alloc, &first, &second)?;
+        assert_eq!(rt; laid, nodes(alloc, both)?);
+    }
+    Ok(())
+}
+
+#[test]
+fn folds_four_shown_leaves(rt: HostRuntime) -> Result<(), Fail> {
+    let alloc = rt.alloc();
+    let word = Word::read(alloc, b"123123")?;
+    let mut tests = Vec::new(alloc);
+    tests.push(WordTests::<Coarse>::new(alloc, &word)?)?;
+    assert!(rt; tests.len() == 1);
+    let tree = [
+        Split,
+        Split,
+        Outside,
+        Outside,
+        Outside,
+        Split,
+        Split,
+        Outside,
+        Outside,
+        Outside,
+        Split,
+        Shown(1),
+        Shown(1),
+        Shown(1),
+        Shown(1),
+        Outside,
+        Outside,
+        Outside,
+        Outside,
+        Outside,
+        Outside,
+    ];
+    let folded = fold(alloc, &tree, &mut tests)?;
+    assert_eq!(rt; folded, nodes(alloc, "ssooossooo1oooooo")?);
+    Ok(())
+}
+
+// On the unit square no word is shown.
+#[test]
+fn keeps_four_shown_leaves(rt: HostRuntime) -> Result<(), Fail> {
+    let alloc = rt.alloc();
+    let word = Word::read(alloc, b"123123")?;
+    let mut tests = Vec::new(alloc);
+    tests.push(WordTests::<Coarse>::new(alloc, &word)?)?;
+    assert!(rt; tests.len() == 1);
+    let tree = [Split, Shown(1), Shown(1), Shown(1), Shown(1)];
+    let folded = fold(alloc, &tree, &mut tests)?;
+    assert_eq!(rt; folded, nodes(alloc, "s1111")?);
+    Ok(())
+}
