@@ -18,6 +18,11 @@ pub mod SearchAnswers
 pub mod TileAnswers
 pub mod OneTile
 pub mod PointsAnswers
+pub mod MergeReasons
+pub mod MergeRounds
+pub mod MergeDue
+pub mod MergeAnswers
+pub mod MergeLaws
 pub mod PathAnswers
 pub mod PathTexts
 pub mod CornerRows

@@ -52,7 +52,7 @@ upgrade_answer version left left' input status text may_be right read = record {
 }
 
 -- the text of a file is that of its tree
-text_of_tree : (h : Heading) (t : Tree) (nodes : List Node) → preorder t ≡ nodes → text_of (file_lines h nodes) ≡ file_text h t
+pub text_of_tree : (h : Heading) (t : Tree) (nodes : List Node) → preorder t ≡ nodes → text_of (file_lines h nodes) ≡ file_text h t
 text_of_tree h t nodes is = ap (λ (ns : List Node). text_of (file_lines h ns)) (sym is) ∙ sym (file_text-lines h t)
 
 pub upgrades_file : (version : ℕ) (f : TreeFile) → IsTreeFile MAX_NODES f

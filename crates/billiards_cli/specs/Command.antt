@@ -8,7 +8,7 @@ pub data Reading : Type 1 where
   Nothing : Reading
   By : Grammar → Reading
 
--- how much of its input a command reads for an answer: all of it, or what comes before a line that is due, or either
+-- how much of its input a command reads for an answer: all of it; what comes before a line that is due; or either, all where no line offends
 pub data Extent : Type 0 where
   ToTheEnd : Extent
   ToALine : Extent

@@ -10,5 +10,6 @@ pub mod Tile
 pub mod Unfold
 pub mod Upgrade
 pub mod Points
+pub mod Merge
 pub mod Family
 pub mod Path

@@ -1,23 +1,31 @@
 -- How much freedom right answers leave, and how those of one command go with those of another, over the definitions alone.
-use Rattle.std.specs.Prelude.{◌≡◌, ◌≢◌, ◌⊎◌, ℕ, List}
+use Rattle.std.specs.Prelude.{◌≡◌, ◌≢◌, ◌⊎◌, ℕ, List, [], ◌∷◌}
 use Rattle.edge_words.specs.Reading.{Spells}
 use Rattle.gradient_bounds.specs.Clear.{IsClearAtPoint}
 use Rattle.gradient_bounds.specs.Corridor.{HasCorridor}
 use Rattle.gradient_bounds.specs.Slacks.{sure}
+use Rattle.gradient_bounds.specs.Slacks as slacks
+use Rattle.covering_file.specs.Covering.{IsCovering}
+use Rattle.covering_file.specs.DueBoxes.{StandsIn}
 use Rattle.covering_file.specs.Header.{IsHeading}
+use Rattle.covering_file.specs.Sound.{IsSoundNode}
+use Rattle.covering_file.specs.TreeFile.{TreeFile}
 use Rattle.covering_file.specs.Verdicts.{IsSureFile}
+use Rattle.covering_file.specs.declared.node.Node.{Node}
+use Rattle.covering_file.specs.declared.node.Node.TheVariants.{Uncovered}
 use Rattle.covering_file.specs.declared.TheConstants.{MAX_NODES}
-use Rattle.rational_polygon.specs.Square.{Square}
+use Rattle.rational_polygon.specs.Square.{Square, unit_square}
 use Rattle.orbit_tile.specs.Laws.{IsBetweenSlacks}
 use Rattle.billiards_cli.specs.Arguments.{Angles}
 use Rattle.billiards_cli.specs.Jobs.{IsJobNumber, job_heading}
 use Rattle.billiards_cli.specs.Commands.At.{AtTriangle, IsAtAnswer}
 use Rattle.billiards_cli.specs.Commands.Check.{IsCheckAnswer}
 use Rattle.billiards_cli.specs.Commands.Cover.{IsCoverAnswer}
+use Rattle.billiards_cli.specs.Commands.Merge.{AreFiles, MergesFiles, IsMergeAnswer}
 use Rattle.billiards_cli.specs.Commands.Tile.{IsTileAnswer}
 use Rattle.billiards_cli.specs.Commands.Word.{IsWordAnswer}
 use Rattle.billiards_cli.specs.declared.status.Status.{Status}
-use Rattle.billiards_cli.specs.declared.status.Status.TheVariants.{Done, OutOfMemory}
+use Rattle.billiards_cli.specs.declared.status.Status.TheVariants.{Done, NotShown, OutOfMemory}
 
 -- two right answers of `word` to one input are one, but for want of memory
 abbrev pub WordAnswerIsOne : Type 0
@@ -58,3 +66,25 @@ CompleteIsAccepted = (input file : List ℕ) → IsCoverAnswer input Done file �
 -- each generated job is a job
 abbrev pub GeneratedIsJob : Type 0
 GeneratedIsJob = (k : ℕ) → IsJobNumber k → IsHeading (job_heading k)
+
+-- ---- merges
+
+-- What `merge` writes where it is done is one whole covering file, and its region is covered.
+abbrev pub ClosedMergeIsCovering : Type 0
+ClosedMergeIsCovering = (input file : List ℕ) → IsMergeAnswer input Done file → IsCovering MAX_NODES file
+
+-- each claim of the nodes is true with the wider slacks, or the box is left uncovered
+abbrev pub AreSureOrOpen : TreeFile → Type 0
+AreSureOrOpen f = (box : Square) (node : Node) → StandsIn (unit_square ∷ []) f.nodes box node
+    → IsSoundNode f.heading slacks.sure box node ⊎ (node ≡ Uncovered)
+
+-- Where both files are so, no claim of them is refused ..
+abbrev pub SureFilesAreMerged : Type 0
+SureFilesAreMerged = (input text : List ℕ) (f g : TreeFile) → AreFiles input f g → AreSureOrOpen f → AreSureOrOpen g
+    → IsMergeAnswer input NotShown text → MergesFiles input NotShown text
+
+-- .. and where the merge is done, it is the text of a file with a sure tree, and `check` accepts it, but for want of memory.
+abbrev pub ClosedMergeIsAccepted : Type 0
+ClosedMergeIsAccepted = (input file : List ℕ) (f g : TreeFile) → AreFiles input f g → AreSureOrOpen f → AreSureOrOpen g
+    → IsMergeAnswer input Done file → IsSureFile MAX_NODES file
+    × ((status : Status) (line : List ℕ) → IsCheckAnswer file status line → (status ≡ Done) ⊎ (status ≡ OutOfMemory))

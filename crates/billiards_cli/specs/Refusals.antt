@@ -9,9 +9,12 @@ use Rattle.line_grammar.specs.Offence.{number_of}
 abbrev pub newline : List ℕ
 newline = 10 ∷ []
 
--- the line of the input that is refused, counted from 1, and why
+-- the line of the input that is refused, counted from 1, and the number of the reason
+abbrev pub numbered_text : ℕ → ℕ → List ℕ
+numbered_text line number = concat (codes "refused line=" ∷ decimal line ∷ codes " reason=" ∷ decimal number ∷ newline ∷ [])
+
 abbrev pub refused_text : ℕ → Reason → List ℕ
-refused_text line reason = concat (codes "refused line=" ∷ decimal line ∷ codes " reason=" ∷ decimal (number_of reason) ∷ newline ∷ [])
+refused_text line reason = numbered_text line (number_of reason)
 
 -- an argument that is refused, and why
 abbrev pub argument_text : Reason → List ℕ

@@ -18,11 +18,12 @@ use Rattle.billiards_cli.specs.Commands.Tile.{tile_request, IsTileAnswer, IsTile
 use Rattle.billiards_cli.specs.Commands.Unfold.{unfold_request, IsUnfoldAnswer, IsUnfoldDue}
 use Rattle.billiards_cli.specs.Commands.Upgrade.{upgrade_request, upgrade_input, upgrade_reads_to, IsUpgradeAnswer, IsUpgradeDue}
 use Rattle.billiards_cli.specs.Commands.Points.{points_request, IsPointsAnswer, IsPointsDue}
+use Rattle.billiards_cli.specs.Commands.Merge.{merge_request, merge_input, merge_reads_to, IsMergeAnswer, IsMergeDue}
 use Rattle.billiards_cli.specs.Commands.Path.{path_request, IsPathAnswer, IsDrawnPathAnswer, IsPathDue}
 use Rattle.billiards_cli.specs.Commands.Family.{family_request, IsFamilyAnswer, IsFamilyDue, IsMembersAnswer, IsMembersDue}
 use Rattle.billiards_cli.specs.declared.request.Request.{Request}
 use Rattle.billiards_cli.specs.declared.request.Request.TheVariants.{Word, Check, At, Cover, Job, Demo, Search, Tile, Unfold}
-use Rattle.billiards_cli.specs.declared.request.Request.TheVariants.{Upgrade, Points, Path, DrawnPath, Family, FamilyAt}
+use Rattle.billiards_cli.specs.declared.request.Request.TheVariants.{Upgrade, Points, Merge, Path, DrawnPath, Family, FamilyAt}
 
 -- the commands by their names: what the arguments after a name ask of it, if anything
 abbrev pub request_named : List ℕ → List (List ℕ) → Option Request
@@ -38,9 +39,10 @@ request_named name arguments =
     (if bytes_eq name (codes "unfold") then unfold_request arguments else
     (if bytes_eq name (codes "upgrade") then upgrade_request arguments else
     (if bytes_eq name (codes "points") then points_request arguments else
+    (if bytes_eq name (codes "merge") then merge_request arguments else
     (if bytes_eq name (codes "path") then path_request arguments else
     (if bytes_eq name (codes "family") then family_request arguments else
-    None))))))))))))
+    None)))))))))))))
 
 abbrev pub request_of : List (List ℕ) → Option Request
 request_of [] = None
@@ -113,6 +115,12 @@ command_of (Points word triangle) = record {
   reads_to = λ status. ToALine;
   IsRight = λ input. IsPointsAnswer word triangle;
   IsDue = λ input. IsPointsDue word;
+}
+command_of Merge = record {
+  reads = By merge_input.grammar;
+  reads_to = merge_reads_to;
+  IsRight = IsMergeAnswer;
+  IsDue = IsMergeDue;
 }
 command_of (Path word triangle) = record {
   reads = Nothing;

@@ -7,7 +7,7 @@ use Rattle.std.specs.Io.KnownBytes.{Appends, IsAtEnd}
 use Rattle.mcb_ends.specs.Bytes.{AppendsPrefix}
 use Rattle.mcb_ends.specs.Causes.{Rose}
 use Rattle.line_grammar.specs.Input.{MayBe}
-use Rattle.line_grammar.specs.Offence.{Grammar}
+use Rattle.line_grammar.specs.Offence.{Grammar, IsFirstOffence}
 use Rattle.line_grammar.specs.declared.reason.Reason.{Reason}
 use Rattle.line_grammar.specs.Reading.{EndsAt}
 use Rattle.billiards_cli.specs.Command.{Reading, Nothing, By, Extent, ToTheEnd, ToALine, ToEither, Command}
@@ -29,12 +29,19 @@ pub record StopsAtNamed (g : Grammar) (text : List ℕ) (left left' : Option (Li
   pub named : MayName text (length (g.lines_before due) + 1)
   pub ends : EndsAt g due left left'
 
+-- An input, or some input where the source does not tell its own, was read to its end: no line of it offends.
+pub record ReadsWhole (g : Grammar) (left left' : Option (List ℕ)) : Type 0 where
+  pub input : List ℕ
+  pub may_be : MayBe left input
+  pub taken : (line : ℕ) (reason : Reason) → ¬ (IsFirstOffence g input line reason)
+  pub ended : IsAtEnd left'
+
 -- an answer was read for: to the end of the input, or as far as the line that it names
 abbrev pub ReadsFor : Reading → Extent → List ℕ → Option (List ℕ) → Option (List ℕ) → Type 0
 ReadsFor Nothing extent text left left' = ⊤
 ReadsFor (By g) ToTheEnd text left left' = IsAtEnd left'
 ReadsFor (By g) ToALine text left left' = StopsAtNamed g text left left'
-ReadsFor (By g) ToEither text left left' = StopsAtNamed g text left left' ⊎ IsAtEnd left'
+ReadsFor (By g) ToEither text left left' = StopsAtNamed g text left left' ⊎ ReadsWhole g left left'
 
 -- a read failed: at some due line
 abbrev pub FailsIn : Reading → Option (List ℕ) → Option (List ℕ) → Type 0

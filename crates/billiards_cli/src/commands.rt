@@ -5,6 +5,7 @@ pub(crate) mod cover;
 pub(crate) mod demo;
 pub(crate) mod family;
 pub(crate) mod job;
+pub(crate) mod merge;
 pub(crate) mod path;
 pub(crate) mod points;
 pub(crate) mod search;

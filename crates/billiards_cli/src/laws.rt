@@ -1,6 +1,7 @@
 //! How much freedom right answers leave, and how those of one command go with those of another, over the definitions alone:
 //! each function's contract is a law. The program calls none.
 ghost use Rattle.billiards_cli.specs.Laws.{WordAnswerIsOne, AtAnswersDifferBetween, TileAnswersDifferBetween, CompleteIsAccepted, GeneratedIsJob};
+ghost use Rattle.billiards_cli.specs.Laws.{ClosedMergeIsCovering, SureFilesAreMerged, ClosedMergeIsAccepted};
 
 /// Two right answers of `word` to one input, neither of which is that memory is wanting, have one status and one text.
 pub fn word_answer_is_one()
@@ -28,4 +29,17 @@ pub fn complete_is_accepted()
 /// Each generated job is a job: a region, a stable word and a depth within the limits.
 pub fn generated_is_job()
     ensures { GeneratedIsJob }
+{}
+
+/// What `merge` writes where it is done is one whole covering file, and every point of its region that is a triangle has a listed
+/// word with a corridor.
+pub fn closed_merge_is_covering()
+    ensures { ClosedMergeIsCovering }
+{}
+
+/// Of two files whose claims are true with the wider slacks, but for boxes that are left uncovered, no claim is refused, and
+/// `check` accepts what `merge` writes of them where it is done, but for want of memory.
+pub fn sure_files_are_merged()
+    ensures merged { SureFilesAreMerged }
+    ensures accepted { ClosedMergeIsAccepted }
 {}

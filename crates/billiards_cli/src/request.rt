@@ -12,6 +12,7 @@ use crate::commands::demo::{self, demo};
 use crate::commands::family::at_triangle::family_at;
 use crate::commands::family::{self, family};
 use crate::commands::job::{self, job};
+use crate::commands::merge::{self, merge};
 use crate::commands::path::picture::drawn_path;
 use crate::commands::path::{self, path};
 use crate::commands::points::{self, points};
@@ -67,6 +68,8 @@ pub(crate) enum Request<'a> {
         word: WordArgument<'a>,
         triangle: Triangle,
     },
+    /// Two covering files of one region that are read from the input, made into one.
+    Merge,
     /// The bounce points of a word's path in a triangle.
     Path {
         word: WordArgument<'a>,
@@ -113,6 +116,8 @@ pub(crate) fn parse(arguments: &Args) -> Option<Request<'_>>
         upgrade::request(&arguments)
     } else if name == b"points".as_slice() {
         points::request(&arguments)
+    } else if name == b"merge".as_slice() {
+        merge::request(&arguments)
     } else if name == b"path".as_slice() {
         path::request(&arguments)
     } else if name == b"family".as_slice() {
@@ -149,6 +154,7 @@ pub(crate) fn obey<S: Source, K: Sink>(
         Request::Unfold { word, triangle } => unfold(alloc, word, triangle, out),
         Request::Upgrade(version) => upgrade(alloc, version, src, out),
         Request::Points { word, triangle } => points(alloc, word, triangle, out),
+        Request::Merge => merge(alloc, src, out),
         Request::Path { word, triangle } => path(alloc, word, triangle, out),
         Request::DrawnPath { word, triangle } => drawn_path(alloc, word, triangle, out),
         Request::Family(argument) => family(alloc, argument, out),

@@ -6,6 +6,7 @@ mod demo;
 mod family;
 mod fixtures;
 mod job;
+mod merge;
 mod path;
 mod points;
 mod search;

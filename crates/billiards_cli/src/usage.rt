@@ -7,6 +7,7 @@ pub(crate) const USAGE: &str = "usage: mcb word | check | cover
        mcb job K | demo K
        mcb upgrade V
        mcb points WORD P Q D
+       mcb merge
        mcb path WORD P Q D [svg]
        mcb family A B C [P Q D]
 ";

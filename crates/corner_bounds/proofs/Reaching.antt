@@ -23,8 +23,7 @@ use Rattle.gradient_bounds.specs.Clear.{slack, margin}
 use Rattle.gradient_bounds.specs.CornerClear.{sag}
 use Rattle.gradient_bounds.specs.Decision.{margin_units}
 use Rattle.gradient_bounds.proofs.Margins.{slack_units}
-use Rattle.corner_bounds.specs.Sag.{IsSag}
-use Rattle.corner_bounds.proofs.Sags.{IsPiAt, sag_above, sag_below}
+use Rattle.corner_bounds.proofs.Sags.{IsPiAt, IsSag, sag_above, sag_below}
 
 -- the square of half the side
 half_square : (level : ℕ) → (pos 1 ÷ 2 ^ (level + 1)) *ℚ (pos 1 ÷ 2 ^ (level + 1)) ≡ pos 1 ÷ 2 ^ (2 * level + 2)

@@ -10,7 +10,12 @@ use Rattle.rat_core.specs.Fraction.{ℚ, ◌÷◌, whole, ◌+ℚ◌, ◌*ℚ◌
 use Rattle.rat_core.proofs.Laws.{ℚ_ordered, int-add, int-mul, le_trans, over-mul, mul_nonneg}
 use Rattle.rat_core.proofs.Order.{int_le, whole_nonneg, whole_le, over_nonneg, cancel_le}
 use Rattle.directed_fixed.specs.Rounding.{IsCeiling}
-use Rattle.corner_bounds.specs.Sag.{IsSag}
+
+-- The sag in units, where pi is at most H units: pi² rounded up, and 2·pi²·B / 4^(level + 1), rounded up.
+pub record IsSag (bits : ℕ) (H : ℤ) (level B : ℕ) (sag : ℤ) : Type 0 where
+  pub square : ℤ
+  pub is_square : IsCeiling square (H *ℤ H) (pos (2 ^ bits))
+  pub is_sag : IsCeiling sag (pos 2 *ℤ square *ℤ pos B) (pos (2 ^ (2 * level + 2)))
 
 -- pi is between L and H, for the n-th approximation
 pub record IsPiAt (bits : ℕ) (L H : ℤ) (p : ℚ) : Type 0 where

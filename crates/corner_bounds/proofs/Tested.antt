@@ -1,7 +1,7 @@
 -- What the tests at the corners of a box say of all functions of a word.
-use Rattle.std.proofs.Common.{◌≡◌, sym, subst, subst₂, ap, ◌∙◌, ℕ, zero, suc, ◌+◌, ◌-◌, ◌*◌, ◌^◌}
-use Rattle.std.proofs.Common.{◌<◌, ◌≤◌, List, Option, Some, None, ℤ, pos, ◌+ℤ◌, ◌-ℤ◌, ◌*ℤ◌, ◌≤ℤ◌, unsigned_abs, arith}
-use Rattle.std.specs.Prelude.{IfSome, IsSome}
+use Rattle.std.proofs.Common.{◌≡◌, refl, sym, subst, ◌∙◌, ℕ, zero, suc, ◌+◌, ◌-◌, ◌*◌, ◌^◌}
+use Rattle.std.proofs.Common.{◌<◌, ◌≤◌, List, Some, ℤ, pos, ◌+ℤ◌, ◌-ℤ◌, ◌*ℤ◌, ◌≤ℤ◌, arith}
+use Rattle.std.specs.Prelude.{IfSome}
 use Rattle.std.proofs.lemmas.Int.{ints}
 use Rattle.std.proofs.Math.Pow.{pow_mono}
 use Rattle.std.proofs.lemmas.Nat.{pow_pos}
@@ -9,6 +9,7 @@ use Rattle.rat_core.specs.Fraction.{ℚ, ◌÷◌, whole, ◌≤ℚ◌}
 use Rattle.rat_core.specs.Written.{Written, value}
 use Rattle.rat_core.proofs.Laws.{over_le}
 use Rattle.rat_core.proofs.Order.{over_nonneg}
+use Rattle.edge_words.specs.Letters.{IsPlace}
 use Rattle.edge_words.specs.Stable.{IsStable}
 use Rattle.edge_words.specs.Word.{IsWord}
 use Rattle.exp_sums.specs.FormalPoint.{FormalPoint}
@@ -21,102 +22,138 @@ use Rattle.unfolding.specs.Shift.{IsShift, HasShift}
 use Rattle.unfolding.proofs.Shifts.{same_shift, stable_from_shift}
 use Rattle.rational_polygon.specs.Point.{Point}
 use Rattle.rational_polygon.specs.Square.{Square, box_corner}
-use Rattle.directed_fixed.specs.Ends.{Ends, Encloses}
+use Rattle.directed_fixed.specs.Ends.{Encloses}
 use Rattle.defining_functions.specs.Functions.{defining_function}
+use Rattle.defining_functions.specs.Sizes.{sizes_of}
+use Rattle.defining_functions.proofs.Limits.{function_limits, function_bend}
 use Rattle.gradient_bounds.specs.Clear.{slack}
 use Rattle.gradient_bounds.specs.CornerClear.{IsCornerClear}
+use Rattle.gradient_bounds.specs.Corridor.{EachFunction}
 use Rattle.gradient_bounds.specs.declared.sine_low.SineLow.{SineLow}
-use Rattle.gradient_bounds.specs.Decision.{margin_units}
-use Rattle.gradient_bounds.specs.Table.{number_in, bounds_in}
-use Rattle.gradient_bounds.proofs.Deciding.{never}
-use Rattle.corner_bounds.specs.Sag.{IsSag}
-use Rattle.corner_bounds.specs.Reaching.{ReachesAt, ReachesThere, EachReachesThere, EachReachesAtCorner}
+use Rattle.gradient_bounds.specs.declared.threshold.Threshold.{Threshold}
+use Rattle.gradient_bounds.specs.Decision.{rounded_up, margin_units, measured, threshold_by}
+use Rattle.gradient_bounds.specs.Table.{PreparedWord, number_in, bounds_in, LowerEndIsAtLeast}
+use Rattle.gradient_bounds.proofs.Computed.{rounded_up_is_ceiling}
+use Rattle.corner_bounds.specs.Sag.{IsSagThreshold}
+use Rattle.corner_bounds.specs.Reaching.{ReachesAt, EachReachesAtCorner}
+use Rattle.corner_bounds.proofs.Sags.{IsSag}
 use Rattle.corner_bounds.proofs.Reaching.{IsSeen, seen_reaches, reaches_seen}
 
--- ---- one function
+-- ---- all functions
 
--- what is known of the function of the k-th upper and the l-th lower corner: its sag D and its margin M in units, and its bounds
-pub record IsTested (bits low : ℕ) (L H : ℤ) (box : Square) (w : List ℕ) (k l : ℕ) (D M : ℤ) (r : Ends) : Type 0 where
+-- what is known of a word and a box before a test: the threshold t is that of the box
+pub record IsReady (bits low : ℕ) (L H : ℤ) (box : Square) (t : Threshold) (w : List ℕ) : Type 0 where
   pub one_unit : H ≡ L +ℤ pos 1
   pub pi : FromSomeOn (λ n. Encloses bits (record { lo = L; hi = H }) (pi_sum n))
   pub room : low + 8 ≤ bits
   pub deep : 10 ≤ box.level
-  pub shift : HasShift w
-  pub bent : (v : FormalPoint) → IsShift w v → bend (defining_function v w k l) ≤ 33800 * weight (defining_function v w k l)
-  pub is_sag : (v : FormalPoint) → IsShift w v → IsSag bits H box.level (bend (defining_function v w k l)) D
-  pub is_margin : (v : FormalPoint) → IsShift w v → M ≡ margin_units bits low (weight (defining_function v w k l))
-  pub narrow : (v : FormalPoint) → IsShift w v → r.hi ≤ℤ (r.lo +ℤ pos (512 * weight (defining_function v w k l)))
-
-module _ (bits low : ℕ) (L H : ℤ) (box : Square) (w : List ℕ) (k l : ℕ) (D M : ℤ) (r : Ends) (tested : IsTested bits low L H box w k l D M r) where
-  seen : (v : FormalPoint) → IsShift w v → (x y : ℚ) → FromSomeOn (λ n. Encloses bits r (value_at n (defining_function v w k l) x y))
-      → IsSeen bits low L H box (defining_function v w k l) x y D M r
-  seen v shift x y encloses = record {
-    one_unit = tested.one_unit;
-    pi = tested.pi;
-    room = tested.room;
-    deep = tested.deep;
-    bent = tested.bent v shift;
-    is_sag = tested.is_sag v shift;
-    is_margin = tested.is_margin v shift;
-    encloses = encloses;
-    narrow = tested.narrow v shift;
-  }
-
-  pub tested_reaches : (o : Option (Written × Written))
-      → IfSome o (λ p. (v : FormalPoint) → IsShift w v → FromSomeOn (λ n. Encloses bits r (value_at n (defining_function v w k l) (value p.0) (value p.1))))
-      → (D +ℤ M) ≤ℤ r.lo → ReachesThere o box (slack low) w k l
-  tested_reaches (Some (x, y)) holds reach = λ v shift. seen_reaches bits low L H box (defining_function v w k l) (value x) (value y) D M r
-      (seen v shift (value x) (value y) (holds v shift)) reach
-  tested_reaches None holds reach = tt
-
-  pub reaches_tested : (o : Option (Written × Written)) → IsSome o
-      → IfSome o (λ p. (v : FormalPoint) → IsShift w v → FromSomeOn (λ n. Encloses bits r (value_at n (defining_function v w k l) (value p.0) (value p.1))))
-      → 4 ≤ low → ReachesThere o box (slack (low - 4)) w k l → (D +ℤ M) ≤ℤ r.lo
-  reaches_tested (Some (x, y)) some holds low_least reach =
-      let v = tested.shift.0 in
-      let s = tested.shift.1 in
-      reaches_seen bits low L H box (defining_function v w k l) (value x) (value y) D M r (seen v s (value x) (value y) (holds v s)) low_least (reach v s)
-  reaches_tested None some holds low_least reach = never ((D +ℤ M) ≤ℤ r.lo) some
+  pub word : IsWord w
+  pub is_sag : IsSagThreshold bits H box.level low t
 
 -- the bounds are as narrow
 bounds_narrow : (z : ℤ) (w : ℕ) → (z +ℤ pos (256 * w)) ≤ℤ (z -ℤ pos (256 * w) +ℤ pos (512 * w))
 bounds_narrow z w = omega (arith, ints)
 
--- what the machine has of the function: its bend and its weight, by the functions of the word u, which is w
-pub record IsMeasured (u w : List ℕ) (k l : ℕ) (bends weighs : ℤ) : Type 0 where
-  pub same : u ≡ w
-  pub shift : HasShift u
-  pub bend_is : (v : FormalPoint) → IsShift u v → bends ≡ pos (bend (defining_function v u k l))
-  pub by_weight : (v : FormalPoint) → IsShift u v → bend (defining_function v u k l) ≤ 33800 * weight (defining_function v u k l)
-  pub weight_is : (v : FormalPoint) → IsShift u v → weighs ≡ pos (weight (defining_function v u k l))
+-- the sag and the margin of a threshold
+abbrev sag_by : Threshold → FormalPoint → ℤ
+sag_by t f = rounded_up (t.rate *ℤ pos (measured t.measure (sizes_of f))) t.parts
 
-pub size_at_least : (u w : List ℕ) (k l : ℕ) (x y : ℤ) → IsMeasured u w k l x y → (pos 0 ≤ℤ x) × (pos 0 ≤ℤ y)
-size_at_least u w k l x y h = (
-  from (bend (defining_function h.shift.0 u k l)) x (h.bend_is h.shift.0 h.shift.1),
-  from (weight (defining_function h.shift.0 u k l)) y (h.weight_is h.shift.0 h.shift.1),
-)
+abbrev margin_by : Threshold → FormalPoint → ℤ
+margin_by t f = t.slack *ℤ pos (1 + weight f)
+
+-- the threshold of a box has the sag of each function in it, and the margin
+record AreOfBox (bits low : ℕ) (H : ℤ) (level : ℕ) (f : FormalPoint) (D M : ℤ) : Type 0 where
+  sag : IsSag bits H level (bend f) D
+  margin : M ≡ margin_units bits low (weight f)
+
+of_box : (bits low : ℕ) (H : ℤ) (level : ℕ) (t : Threshold) (f : FormalPoint) → IsSagThreshold bits H level low t
+    → AreOfBox bits low H level f (sag_by t f) (margin_by t f)
+of_box bits low H level t f h = subst (λ u. AreOfBox bits low H level f (sag_by u f) (margin_by u f)) (sym h.is) (record {
+  sag = record {
+    square = h.square;
+    is_square = h.is_square;
+    is_sag = rounded_up_is_ceiling (pos 2 *ℤ h.square *ℤ pos (bend f)) (pos (2 ^ (2 * level + 2))) (some (2 ^ (2 * level + 2)) (pow_pos (2 * level + 2)));
+  };
+  margin = refl;
+})
   where
-    from : (n : ℕ) (z : ℤ) → z ≡ pos n → pos 0 ≤ℤ z
-    from n z e = omega (arith, ints)
+    some : (n : ℕ) → 0 < n → pos 1 ≤ℤ pos n
+    some n h = omega (arith, ints)
 
-pub tested_of : (bits low : ℕ) (L H : ℤ) (box : Square) (u w : List ℕ) (k l : ℕ) (x y D M : ℤ) (r : Ends) (table : List SineLow) → IsMeasured u w k l x y
-    → H ≡ L +ℤ pos 1 → FromSomeOn (λ n. Encloses bits (record { lo = L; hi = H }) (pi_sum n)) → low + 8 ≤ bits → 10 ≤ box.level
-    → IsSag bits H box.level (unsigned_abs x) D → M ≡ margin_units bits low (unsigned_abs y)
-    → ((v : FormalPoint) → IsShift w v → r ≡ bounds_in table (defining_function v w k l)) → IsTested bits low L H box w k l D M r
-tested_of bits low L H box u w k l x y D M r table h unit pi room deep is_sag is_margin ends = record {
-  one_unit = unit;
-  pi = pi;
-  room = room;
-  deep = deep;
-  shift = subst HasShift h.same h.shift;
-  bent = subst (λ a. (v : FormalPoint) → IsShift a v → bend (defining_function v a k l) ≤ 33800 * weight (defining_function v a k l)) h.same h.by_weight;
-  is_sag = subst (λ a. (v : FormalPoint) → IsShift a v → IsSag bits H box.level (bend (defining_function v a k l)) D) h.same
-      (λ v s. subst (λ z. IsSag bits H box.level (unsigned_abs z) D) (h.bend_is v s) is_sag);
-  is_margin = subst (λ a. (v : FormalPoint) → IsShift a v → M ≡ margin_units bits low (weight (defining_function v a k l))) h.same
-      (λ v s. is_margin ∙ ap (λ z. margin_units bits low (unsigned_abs z)) (h.weight_is v s));
-  narrow = λ v s. subst (λ (e : Ends). e.hi ≤ℤ (e.lo +ℤ pos (512 * weight (defining_function v w k l)))) (sym (ends v s))
-      (bounds_narrow (number_in table (defining_function v w k l)) (weight (defining_function v w k l)));
-}
+module _ (bits low : ℕ) (L H : ℤ) (box : Square) (t : Threshold) (w : List ℕ) (ready : IsReady bits low L H box t w) (table : List SineLow) (x y : ℚ)
+    (within : EachFunction w (λ f. FromSomeOn (λ n. Encloses bits (bounds_in table f) (value_at n f x y)))) where
+  abbrev IsAbove : FormalPoint → Type 0
+  IsAbove = LowerEndIsAtLeast (threshold_by t) table
+
+  -- the word has one shift, so what holds of each function holds with any
+  with_shift : (P : FormalPoint → Type 0) → EachFunction w P → (v : FormalPoint) → IsShift w v → (k l : ℕ) → IsPlace w k → IsPlace w l
+      → P (defining_function v w k l)
+  with_shift P each v shift k l p q =
+      subst (λ u. P (defining_function u w k l)) (same_shift w each.shift v each.is_shift shift) (each.each k l p q)
+
+  seen : (v : FormalPoint) → IsShift w v → (k l : ℕ) → IsPlace w k → IsPlace w l → let f = defining_function v w k l in
+      IsSeen bits low L H box f x y (sag_by t f) (margin_by t f) (bounds_in table f)
+  seen v shift k l p q =
+      let f = defining_function v w k l in
+      let box_has = of_box bits low H box.level t f ready.is_sag in
+      record {
+        one_unit = ready.one_unit;
+        pi = ready.pi;
+        room = ready.room;
+        deep = ready.deep;
+        bent = function_bend f (function_limits w v ready.word shift k l p q);
+        is_sag = box_has.sag;
+        is_margin = box_has.margin;
+        encloses = with_shift (λ f. FromSomeOn (λ n. Encloses bits (bounds_in table f) (value_at n f x y))) within v shift k l p q;
+        narrow = bounds_narrow (number_in table f) (weight f);
+      }
+
+  pub above_reaches : EachFunction w IsAbove → (k l : ℕ) → IsPlace w k → IsPlace w l → (v : FormalPoint) → IsShift w v
+      → ReachesAt box (slack low) (defining_function v w k l) x y
+  above_reaches each k l p q v shift =
+      let f = defining_function v w k l in
+      seen_reaches bits low L H box f x y (sag_by t f) (margin_by t f) (bounds_in table f) (seen v shift k l p q) (with_shift IsAbove each v shift k l p q)
+
+  pub reaches_above : 4 ≤ low
+      → ((k l : ℕ) → IsPlace w k → IsPlace w l → (v : FormalPoint) → IsShift w v → ReachesAt box (slack (low - 4)) (defining_function v w k l) x y)
+      → EachFunction w IsAbove
+  reaches_above some each = record {
+    stable = within.stable;
+    shift = within.shift;
+    is_shift = within.is_shift;
+    each = λ k l p q. let f = defining_function within.shift w k l in
+        reaches_seen bits low L H box f x y (sag_by t f) (margin_by t f) (bounds_in table f) (seen within.shift within.is_shift k l p q) some
+        (each k l p q within.shift within.is_shift);
+  }
+
+-- what is known of a word once its table is filled at the corner (a, b) of the box
+pub record IsAtCorner (bits : ℕ) (box : Square) (a b : ℕ) (w : List ℕ) (x y : Written) (now : PreparedWord) : Type 0 where
+  pub same : now.word ≡ w
+  pub point : now.point ≡ Some (x, y)
+  pub corner : record { x = value x; y = value y } ≡ box_corner box a b
+  pub within : IfSome now.point (λ p. EachFunction now.word (λ f.
+      FromSomeOn (λ n. Encloses bits (bounds_in now.table f) (value_at n f (value p.0) (value p.1)))))
+
+module _ (bits low : ℕ) (L H : ℤ) (box : Square) (a b : ℕ) (t : Threshold) (w : List ℕ) (x y : Written) (now : PreparedWord)
+    (ready : IsReady bits low L H box t now.word) (at : IsAtCorner bits box a b w x y now) where
+  within_there : EachFunction now.word (λ f. FromSomeOn (λ n. Encloses bits (bounds_in now.table f) (value_at n f (value x) (value y))))
+  within_there = subst (λ o. IfSome o (λ p. EachFunction now.word (λ f.
+      FromSomeOn (λ n. Encloses bits (bounds_in now.table f) (value_at n f (value p.0) (value p.1)))))) at.point at.within
+
+  pub shift_there : HasShift w
+  shift_there = subst HasShift at.same (within_there.shift, within_there.is_shift)
+
+  pub above_clear : EachFunction now.word (LowerEndIsAtLeast (threshold_by t) now.table) → EachReachesAtCorner box (slack low) w a b
+  above_clear each =
+      subst (λ u. EachReachesAtCorner box (slack low) u a b) at.same (λ k l p q v s.
+      subst (λ (c : Point). ReachesAt box (slack low) (defining_function v now.word k l) c.x c.y) at.corner
+      (above_reaches bits low L H box t now.word ready now.table (value x) (value y) within_there each k l p q v s))
+
+  pub clear_above : 4 ≤ low → EachReachesAtCorner box (slack (low - 4)) w a b → EachFunction now.word (LowerEndIsAtLeast (threshold_by t) now.table)
+  clear_above some each =
+      let here = subst (λ u. EachReachesAtCorner box (slack (low - 4)) u a b) (sym at.same) each in
+      reaches_above bits low L H box t now.word ready now.table (value x) (value y) within_there some (λ k l p q v s.
+      subst (λ (c : Point). ReachesAt box (slack (low - 4)) (defining_function v now.word k l) c.x c.y) (sym at.corner) (here k l p q v s))
 
 -- ---- corners
 
@@ -131,20 +168,6 @@ pub coordinate_between : (x : Written) (i a level : ℕ) → i < 2 ^ level → a
     → (whole 0 ≤ℚ value x) × (value x ≤ℚ whole 1)
 coordinate_between x i a level inside h is = subst (λ (t : Written). (whole 0 ≤ℚ value t) × (value t ≤ℚ whole 1)) (sym is)
     (corner_between (i + a) (2 ^ level) (omega (arith, inside, h)) (pow_pos level))
-
--- the point at which the table is filled is the corner
-module _ (o : Option (Written × Written)) (x y : Written) (box : Square) (e : ℚ) (u w : List ℕ) (a b : ℕ) (point : o ≡ Some (x, y)) (same : u ≡ w)
-    (corner : record { x = value x; y = value y } ≡ box_corner box a b) where
-  pub reaches_at_corner : EachReachesThere o box e u → EachReachesAtCorner box e w a b
-  reaches_at_corner each =
-      let here : EachReachesThere (Some (x, y)) box e w = subst₂ (λ p v. EachReachesThere p box e v) point same each in
-      λ k l h h' v s. subst (λ (q : Point). ReachesAt box e (defining_function v w k l) q.x q.y) corner (here k l h h' v s)
-
-  pub corner_reaches : EachReachesAtCorner box e w a b → EachReachesThere o box e u
-  corner_reaches each =
-      let here : EachReachesThere (Some (x, y)) box e w =
-      λ k l h h' v s. subst (λ (q : Point). ReachesAt box e (defining_function v w k l) q.x q.y) (sym corner) (each k l h h' v s) in
-      subst₂ (λ p v. EachReachesThere p box e v) (sym point) (sym same) here
 
 -- the four corners are all
 pub all_corners : (P : ℕ → ℕ → Type 0) → P 0 0 → P 1 0 → P 0 1 → P 1 1 → (a b : ℕ) → a ≤ 1 → b ≤ 1 → P a b

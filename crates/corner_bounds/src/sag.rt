@@ -1,14 +1,16 @@
-//! What the bounds of a function's value have to reach at the corners of a box, in units.
+//! What functions have to reach at the corners of a box, in units.
 ghost use Rattle.std.specs.Prelude.{◌≡◌, ◌+◌, ◌-◌, ◌*◌, ◌^◌, ◌≤◌, pos, ◌*ℤ◌, ◌≤ℤ◌, unsigned_abs};
 ghost use Rattle.directed_fixed.specs.Rounding.{IsCeiling};
-ghost use Rattle.gradient_bounds.specs.Decision.{margin_units};
-ghost use Rattle.corner_bounds.specs.Sag.{IsSag};
+ghost use Rattle.gradient_bounds.specs.Decision.{IsThreshold};
+ghost use Rattle.corner_bounds.specs.Sag.{IsSagThreshold};
 
 use directed_fixed::{Direction, Scale, Up};
+use gradient_bounds::{Measure, Threshold};
 
 /// The square of pi, in units, rounded up.
 fn pi_square<S: Scale>() -> i128
     ensures square { IsCeiling result (S.PI_HI *ℤ S.PI_HI) (pos (2 ^ S.BITS)) }
+    ensures at_least { pos 0 ≤ℤ result }
     ensures size { unsigned_abs result ≤ 2 ^ 64 }
 {
     Up::mul(S::PI_HI, S::PI_HI, S::BITS)
@@ -22,18 +24,6 @@ fn parts(level: u32) -> i128
     1 << (2 * level + 2)
 }
 
-/// How far a function with this bend may lie, in a box of this level, below its values at the corners: 2·pi² times the bend
-/// times the square of half the side, rounded up.
-pub fn sag<S: Scale>(bend: i64, level: u32) -> i128
-    requires at_least { pos 0 ≤ℤ bend }
-    requires at_most { bend ≤ℤ pos 553779200 }
-    requires level { level ≤ 20 }
-    ensures sag { IsSag S.BITS S.PI_HI level (unsigned_abs bend) result }
-    ensures size { unsigned_abs result ≤ 2 ^ 100 }
-{
-    Up::div(2 * pi_square::<S>() * i128::from(bend), parts(level))
-}
-
 /// The slack `2^-low`, in units.
 fn slack_units<S: Scale>(low: u32) -> i128
     requires { low ≤ S.BITS }
@@ -42,13 +32,19 @@ fn slack_units<S: Scale>(low: u32) -> i128
     1 << (S::BITS - low)
 }
 
-/// As much for each unit of the weight and one more.
-pub fn margin<S: Scale>(weight: i64, low: u32) -> i128
-    requires at_least { pos 0 ≤ℤ weight }
-    requires at_most { weight ≤ℤ pos 16384 }
+/// What functions have to reach at the corners of a box of this level: the sag, so far may a function lie in the box below
+/// its values at the corners, which is 2·pi² times its bend times the square of half the side, and the margin with the
+/// slack `2^-low`.
+pub fn sag_threshold<S: Scale>(level: u32, low: u32) -> Threshold
+    requires level { level ≤ 20 }
     requires low { low ≤ S.BITS }
-    ensures margin { result ≡ margin_units S.BITS low (unsigned_abs weight) }
-    ensures size { unsigned_abs result ≤ 2 ^ 100 }
+    ensures sag { IsSagThreshold S.BITS S.PI_HI level low result }
+    ensures threshold { IsThreshold result }
 {
-    slack_units::<S>(low) * (1 + i128::from(weight))
+    Threshold {
+        measure: Measure::Bend,
+        rate: 2 * pi_square::<S>(),
+        parts: parts(level),
+        slack: slack_units::<S>(low),
+    }
 }

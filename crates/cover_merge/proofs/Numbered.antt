@@ -119,10 +119,10 @@ renumbered_has_nodes_lem number (split a b c d) =
         ∙ ap (λ (ns : List Node). (ns ++ map f c) ++ map f d) (map-append f a b)
 
 -- what stands in the tree with other numbers is what stands in the tree, with another number
-abbrev IsRenumbered : (ℕ → ℕ) → Tree → Square → Square → Node → Type 0
+abbrev pub IsRenumbered : (ℕ → ℕ) → Tree → Square → Square → Node → Type 0
 IsRenumbered number t root box n = (m : Node) × StandsAt root t box m × (n ≡ with_number number m)
 
-is_renumbered : (number : ℕ → ℕ) (t : Tree) (root box : Square) (n : Node) → StandsAt root (renumbered number t) box n → IsRenumbered number t root box n
+pub is_renumbered : (number : ℕ → ℕ) (t : Tree) (root box : Square) (n : Node) → StandsAt root (renumbered number t) box n → IsRenumbered number t root box n
 is_renumbered number (leaf m is) root box n stands = (m, (stands.0, refl), stands.1)
 is_renumbered number (split a b c d) root box n (inl here) = (Split, inl (here.0, refl), here.1)
 is_renumbered number (split a b c d) root box n (inr (inl there)) =
@@ -158,7 +158,7 @@ renumbered_is_open_where_tree_is_lem number t root box = (
   still_open number t root box,
 )
 
-sound_still : (e : Slacks) (g h : Heading) (number : ℕ → ℕ) (box : Square) (m : Node) → g.version ≡ h.version → g.region ≡ h.region
+pub sound_still : (e : Slacks) (g h : Heading) (number : ℕ → ℕ) (box : Square) (m : Node) → g.version ≡ h.version → g.region ≡ h.region
     → g.depth ≤ h.depth
     → ((i : ℕ) → IsListed g.words i → IsListed h.words (number i) × (word_at h.words (number i) ≡ word_at g.words i))
     → IsSoundNode g e box m → IsSoundNode h e box (with_number number m)

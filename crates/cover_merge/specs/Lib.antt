@@ -5,3 +5,7 @@ pub mod Pairs
 pub mod Laws
 pub mod Union
 pub mod UnionLaws
+pub mod Rounds
+pub mod Merge
+pub mod Steps
+pub mod MergeLaws

@@ -4,6 +4,7 @@ ghost use Rattle.cover_merge.specs.Laws.{OverlayIsSmall, FoldIsSmall, OverlayIsN
 ghost use Rattle.cover_merge.specs.Laws.{OverlayKeepsSound, FoldKeepsSound, ClosedIsSound};
 ghost use Rattle.cover_merge.specs.UnionLaws.{UnionKeepsFirst, UnionHasOthers, UnionHasNoMore};
 ghost use Rattle.cover_merge.specs.UnionLaws.{RenumberedHasNodes, RenumberedIsOpenWhereTreeIs, RenumberedKeepsSound};
+ghost use Rattle.cover_merge.specs.MergeLaws.{MergeIsOpenWhereBothAre, MergeIsSmall, ClosedMergeCovers, ClosedMergeIsSure};
 
 /// What stands in an overlay stands in one of the trees.
 pub fn overlay_is_of_both()
@@ -57,4 +58,17 @@ pub fn renumbered_is_the_same()
     ensures nodes { RenumberedHasNodes }
     ensures open { RenumberedIsOpenWhereTreeIs }
     ensures sound { RenumberedKeepsSound }
+{}
+
+/// A box that a merge leaves uncovered lies in one of each file, and a merge has at most as many nodes as both files.
+pub fn merge_is_of_both()
+    ensures open { MergeIsOpenWhereBothAre }
+    ensures small { MergeIsSmall }
+{}
+
+/// A merge of files that no round refuses covers its region where no box is left uncovered, and is sure where both files are but
+/// for uncovered boxes.
+pub fn closed_merge()
+    ensures covers { ClosedMergeCovers }
+    ensures sure { ClosedMergeIsSure }
 {}

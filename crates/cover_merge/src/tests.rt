@@ -1,8 +1,9 @@
-use crate::{fold, overlay};
+use crate::{MergeFault, fold, merge, overlay};
 use covering_claims::WordTests;
 use covering_file::Node;
 use covering_file::Node::{Outside, Shown, Split};
 use edge_words::Word;
+use mcb_ends::MemSource;
 use pi_bounds::Coarse;
 use std::alloc::{AllocError, Global};
 use std::process::Abort;
@@ -93,5 +94,35 @@ fn keeps_four_shown_leaves(rt: HostRuntime) -> Result<(), Fail> {
     let tree = [Split, Shown(1), Shown(1), Shown(1), Shown(1)];
     let folded = fold(alloc, &tree, &mut tests)?;
     assert_eq!(rt; folded, nodes(alloc, "s1111")?);
+    Ok(())
+}
+
+// Two halves of a covering of a square.
+const SQUARE: &str =
+    "mcbcover 1\ngrid 64\npolygon 4\n31 15\n33 15\n33 17\n31 17\nwords 1\n123123\ndepth 2\n";
+
+const FIRST_HALF: &str = "s\nu\ns\nu\no\nu\no\no\no\nend open 3\n";
+
+const SECOND_HALF: &str = "s\ns\no\nu\no\nu\nu\no\no\nend open 3\n";
+
+fn halves(alloc: Global) -> Result<MemSource, AllocError> {
+    let mut text = String::from_str(alloc, SQUARE)?;
+    text.push_str(FIRST_HALF)?;
+    text.push_str(SQUARE)?;
+    text.push_str(SECOND_HALF)?;
+    Ok(MemSource::new(text.as_bytes().to_vec(alloc)?, 4096, Vec::new(alloc)))
+}
+
+// Both halves have 13 nodes, and leave four boxes uncovered.
+#[test]
+fn merges_within_a_limit(rt: HostRuntime) -> Result<(), Fail> {
+    let alloc = rt.alloc();
+    let mut src = halves(alloc)?;
+    let full = merge(alloc, 9, &mut src).err();
+    assert!(rt; full == Some(MergeFault::Full { nodes: 13 }));
+    let mut src = halves(alloc)?;
+    let merged = merge(alloc, 13, &mut src)?;
+    assert_eq!(rt; merged.nodes().len(), 13);
+    assert_eq!(rt; merged.uncovered(), 4);
     Ok(())
 }

@@ -1,5 +1,5 @@
 -- How far a covering has come: the nodes so far, and the boxes that are due after them.
-use Rattle.std.proofs.Common.{◌≡◌, ◌≢◌, ◌⊎◌, inl, inr, refl, sym, ap, ◌∙◌, subst, ℕ, ◌<◌, ◌≤◌, List, [], ◌∷◌, ◌++◌, length, take, arith, length-append}
+use Rattle.std.proofs.Common.{◌≡◌, ◌≢◌, inl, inr, refl, sym, ap, ◌∙◌, subst, ℕ, ◌<◌, ◌≤◌, List, [], ◌∷◌, ◌++◌, length, take, arith, length-append}
 use Rattle.std.specs.List.{All, fold}
 use Rattle.std.proofs.lemmas.Bool.{cases_lt}
 use Rattle.std.proofs.lemmas.List.{take-append-le}
@@ -12,7 +12,7 @@ use Rattle.covering_file.specs.declared.node.Node.TheVariants.{Split}
 use Rattle.covering_file.specs.DueBoxes.{due_after, due_boxes, AreDue, StandsIn}
 use Rattle.covering_file.specs.Header.{Heading, IsHeading}
 use Rattle.covering_file.specs.Node.{IsLeaf}
-use Rattle.covering_file.proofs.Trees.{due_after-leaf, split_or_leaf}
+use Rattle.covering_file.proofs.Trees.{due_after-leaf, split_or_leaf, stands_last}
 use Rattle.coverer.specs.declared.stack.Due.{Due}
 use Rattle.coverer.specs.declared.word_set.WordSet.{WordSet}
 use Rattle.coverer.specs.Begun.{IsBegun}
@@ -56,18 +56,6 @@ at_start limit h words heading all =
 
 due_more : (nodes : List Node) (n : Node) → due_boxes (nodes ++ n ∷ []) ≡ due_after (due_boxes nodes) n
 due_more nodes n = fold-append due_after (unit_square ∷ []) nodes (n ∷ [])
-
--- a node that stands among these is one of the first, or the last, at the first box that is due before it
-stands_last : (nodes : List Node) (due : List Square) (n : Node) (box : Square) (others : List Square) (at : Square) (m : Node)
-    → fold due_after due nodes ≡ box ∷ others → StandsIn due (nodes ++ n ∷ []) at m → StandsIn due nodes at m ⊎ ((at ≡ box) × (m ≡ n))
-stands_last [] due n box others at m is stands =
-    let here : ((at ≡ box) × (m ≡ n)) ⊎ StandsIn (due_after (box ∷ others) n) [] at m =
-    subst (λ (boxes : List Square). StandsIn boxes (n ∷ []) at m) is stands in
-    elim here [ inl one ↦ inr one | inr none ↦ absurd none ]
-stands_last (k ∷ nodes) [] n box others at m is stands = absurd stands
-stands_last (k ∷ nodes) (first ∷ due) n box others at m is (inl here) = inl (inl here)
-stands_last (k ∷ nodes) (first ∷ due) n box others at m is (inr stands) =
-    elim (stands_last nodes (due_after (first ∷ due) k) n box others at m is stands) [ inl s ↦ inl (inr s) | inr last ↦ inr last ]
 
 some_due : (boxes : List Square) (box : Square) (others : List Square) → boxes ≡ box ∷ others → boxes ≢ []
 some_due boxes box others is none = cc

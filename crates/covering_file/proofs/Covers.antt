@@ -87,7 +87,7 @@ sound_covers h t heading sound p of_region =
 positive : whole 0 <ℚ slacks.sound.gradient
 positive = over_positive 1 (2 ^ 60) (omega arith) (pow_pos 60)
 
-narrower : slacks.sound.gradient ≤ℚ slacks.sure.gradient
+pub narrower : slacks.sound.gradient ≤ℚ slacks.sure.gradient
 narrower = over_le (pos 1) (pos 1) (2 ^ 60) (2 ^ 40) (pow_pos 60) (pow_pos 40) (omega (arith, ints))
 
 enough : pos 1 ÷ 2 ^ 49 ≤ℚ slacks.sound.corner

@@ -75,6 +75,18 @@ stands_next (m ∷ nodes) [] n more box others is = absurd (no_box box others (s
     no_box box others is = cc
 stands_next (m ∷ nodes) (first ∷ due) n more box others is = inr (stands_next nodes (due_after (first ∷ due) m) n more box others is)
 
+-- a node that stands among these is one of the first, or the last, at the first box that is due before it
+pub stands_last : (nodes : List Node) (due : List Square) (n : Node) (box : Square) (others : List Square) (at : Square) (m : Node)
+    → fold due_after due nodes ≡ box ∷ others → StandsIn due (nodes ++ n ∷ []) at m → StandsIn due nodes at m ⊎ ((at ≡ box) × (m ≡ n))
+stands_last [] due n box others at m is stands =
+    let here : ((at ≡ box) × (m ≡ n)) ⊎ StandsIn (due_after (box ∷ others) n) [] at m =
+    subst (λ (boxes : List Square). StandsIn boxes (n ∷ []) at m) is stands in
+    elim here [ inl one ↦ inr one | inr none ↦ absurd none ]
+stands_last (k ∷ nodes) [] n box others at m is stands = absurd stands
+stands_last (k ∷ nodes) (first ∷ due) n box others at m is (inl here) = inl (inl here)
+stands_last (k ∷ nodes) (first ∷ due) n box others at m is (inr stands) =
+    elim (stands_last nodes (due_after (first ∷ due) k) n box others at m is stands) [ inl s ↦ inl (inr s) | inr last ↦ inr last ]
+
 -- the nodes of a tree, and then others
 due_in_tree : (t : Tree) (box : Square) (due : List Square) (nodes : List Node) → AreDueFrom due nodes → AreDueFrom (box ∷ due) (preorder t ++ nodes)
 due_in_tree (leaf n is) box due nodes are =

@@ -1,28 +1,22 @@
 -- How the extremes and the pairs decide.
 use Rattle.std.proofs.Common.{◌≡◌, ◌↔◌, refl, sym, ap, subst, subst₂, ℕ, ◌+◌, ◌-◌, ◌*◌, ◌^◌, ◌≤◌, List, ℤ, pos, negsuc, ◌+ℤ◌, ◌-ℤ◌, ◌*ℤ◌, neg_ℤ, ◌≤ℤ◌}
-use Rattle.std.proofs.Common.{unsigned_abs, slice_index_or, FitsSigned, T, Bool, true, false, not, arith, mul-le-mul, mul-le-mul_left, mul-le-mul_right}
+use Rattle.std.proofs.Common.{unsigned_abs, slice_index_or, FitsSigned, T, Bool, true, false, not, arith, mul-le-mul_left}
 use Rattle.std.specs.Prelude.{int_le as is_at_most, int_lt as is_less, IsTrue}
 use Rattle.std.specs.Int.{w128}
 use Rattle.std.specs.Int.Signed.{le_z_yes, lt_z_no}
-use Rattle.std.proofs.lemmas.Nat.{pow_pos}
 use Rattle.std.proofs.lemmas.Int.{ints, fits_signed_from_abs}
 use Rattle.edge_words.specs.Letters.{IsPlace}
 use Rattle.exp_sums.specs.FormalPoint.{FormalPoint}
-use Rattle.exp_sums.specs.Limits.{weight}
-use Rattle.exp_sums.specs.Reach.{reach}
-use Rattle.unfolding.specs.Shift.{IsShift, HasShift}
-use Rattle.trig_meaning.specs.PartialSums.{pi_sum}
-use Rattle.trig_meaning.specs.FromSomeOn.{FromSomeOn}
-use Rattle.directed_fixed.specs.Ends.{Encloses}
-use Rattle.directed_fixed.proofs.Rounding.{rounded_mono}
-use Rattle.defining_functions.specs.Functions.{defining_function}
 use Rattle.exp_sums.specs.declared.sizes.Sizes.{Sizes}
+use Rattle.unfolding.specs.Shift.{IsShift, HasShift}
+use Rattle.defining_functions.specs.Functions.{defining_function}
 use Rattle.defining_functions.specs.Sizes.{sizes_of, AreAtMost}
-use Rattle.gradient_bounds.specs.declared.neighbourhood.Neighbourhood.{Neighbourhood}
-use Rattle.gradient_bounds.specs.Neighbourhood.{IsNeighbourhood}
-use Rattle.gradient_bounds.specs.Decision.{rounded_up, drift_units, margin_units, needed_units, needed, difference, Reaches, FallsBelow}
+use Rattle.gradient_bounds.specs.declared.threshold.Measure.{Measure}
+use Rattle.gradient_bounds.specs.declared.threshold.Measure.TheVariants.{Reach, Bend}
+use Rattle.gradient_bounds.specs.declared.threshold.Threshold.{Threshold}
+use Rattle.gradient_bounds.specs.Decision.{rounded_up, measured, needed_at, needed_by, IsThreshold, difference, Reaches, FallsBelow}
 use Rattle.gradient_bounds.specs.Decision.{SomeFallsBelow, SomeInRowFalls, IsGreatest, ReachesInRow}
-use Rattle.gradient_bounds.proofs.Computed.{rounded_up_is_ceiling, drift_at_least, pi_at_least, needed_iff}
+use Rattle.gradient_bounds.proofs.Computed.{needed_iff, product_at_least, margin_at_least, rounded_up_at_least, rounded_up_mono}
 
 -- ---- one pair
 
@@ -39,44 +33,42 @@ pub not_less : (a b : ℤ) → is_less a b ≡ false → b ≤ℤ a
 not_less a b h = lt_z_no (subst (λ t. T (not t)) (sym h) tt)
 
 -- what the machine compares
-pub needed_test : (bits low : ℕ) (H : ℤ) (r : Neighbourhood) (w p : ℕ) (t A n : ℤ) → IsNeighbourhood r → A ≡ pos (256 * w) +ℤ margin_units bits low w
-    → n ≡ H *ℤ (pos p *ℤ r.radius) → IsTrue (is_at_most n ((t -ℤ A) *ℤ r.centre.den)) ↔ needed_units bits low H r w p ≤ℤ t
-needed_test bits low H r w p t A n near A_is n_is =
-    let m = margin_units bits low w in
-    let product = H *ℤ (pos p *ℤ r.radius) in
-    let iff = needed_iff product r.centre.den (pos (256 * w)) m t near.angles.positive in
-    let machine = at_most_iff n ((t -ℤ A) *ℤ r.centre.den) in (
-      λ h. iff.1 (subst₂ (λ a b. a ≤ℤ ((t -ℤ b) *ℤ r.centre.den)) n_is A_is (machine.0 h)),
-      λ h. machine.1 (subst₂ (λ a b. a ≤ℤ ((t -ℤ b) *ℤ r.centre.den)) (sym n_is) (sym A_is) (iff.0 h)),
+pub needed_test : (t : Threshold) (s : Sizes) (z A n : ℤ) → IsThreshold t → A ≡ pos (256 * s.weight) +ℤ t.slack *ℤ pos (1 + s.weight)
+    → n ≡ t.rate *ℤ pos (measured t.measure s) → IsTrue (is_at_most n ((z -ℤ A) *ℤ t.parts)) ↔ needed_at t s ≤ℤ z
+needed_test t s z A n is A_is n_is =
+    let iff = needed_iff (t.rate *ℤ pos (measured t.measure s)) t.parts (pos (256 * s.weight)) (t.slack *ℤ pos (1 + s.weight)) z is.parts_at_least in
+    let machine = at_most_iff n ((z -ℤ A) *ℤ t.parts) in (
+      λ h. iff.1 (subst₂ (λ a b. a ≤ℤ ((z -ℤ b) *ℤ t.parts)) n_is A_is (machine.0 h)),
+      λ h. machine.1 (subst₂ (λ a b. a ≤ℤ ((z -ℤ b) *ℤ t.parts)) (sym n_is) (sym A_is) (iff.0 h)),
     )
 
 -- The sizes s of the function of two corners, and a test of what functions of such sizes need.
-pub record IsTestOf (bits low : ℕ) (H : ℤ) (r : Neighbourhood) (w : List ℕ) (k l : ℕ) (s : Sizes) (b : Bool) (z : ℤ) : Type 0 where
+pub record IsTestOf (t : Threshold) (w : List ℕ) (k l : ℕ) (s : Sizes) (b : Bool) (z : ℤ) : Type 0 where
   pub shift : HasShift w
   pub sizes : (v : FormalPoint) → IsShift w v → s ≡ sizes_of (defining_function v w k l)
-  pub test : IsTrue b ↔ needed_units bits low H r s.weight s.reach ≤ℤ z
+  pub test : IsTrue b ↔ needed_at t s ≤ℤ z
 
-module _ (bits low : ℕ) (H : ℤ) (r : Neighbourhood) (w : List ℕ) (k l : ℕ) (s : Sizes) (b : Bool) (z : ℤ) (is : IsTestOf bits low H r w k l s b z) where
-  need_of : (v : FormalPoint) → IsShift w v → needed_units bits low H r s.weight s.reach ≡ needed bits low H r (defining_function v w k l)
-  need_of v shift = ap (λ (s : Sizes). needed_units bits low H r s.weight s.reach) (is.sizes v shift)
+module _ (t : Threshold) (w : List ℕ) (k l : ℕ) (s : Sizes) (b : Bool) (z : ℤ) (is : IsTestOf t w k l s b z) where
+  need_of : (v : FormalPoint) → IsShift w v → needed_at t s ≡ needed_by t (defining_function v w k l)
+  need_of v shift = ap (needed_at t) (is.sizes v shift)
 
-  pub reaches_iff : IsTrue b ↔ Reaches (needed bits low H r) w k l z
+  pub reaches_iff : IsTrue b ↔ Reaches (needed_by t) w k l z
   reaches_iff = (
     λ h v shift. subst (λ a. a ≤ℤ z) (need_of v shift) (is.test.0 h),
     λ h. is.test.1 (subst (λ a. a ≤ℤ z) (sym (need_of is.shift.0 is.shift.1)) (h is.shift.0 is.shift.1)),
   )
 
-  pub falls_iff : (y : ℤ) → z ≡ pos 0 -ℤ y → IsTrue b ↔ FallsBelow (needed bits low H r) w k l y
+  pub falls_iff : (y : ℤ) → z ≡ pos 0 -ℤ y → IsTrue b ↔ FallsBelow (needed_by t) w k l y
   falls_iff y z_is = (
-    λ h v shift. below y z (needed bits low H r (defining_function v w k l)) z_is (reaches_iff.0 h v shift),
-    λ h. reaches_iff.1 (λ v shift. above y z (needed bits low H r (defining_function v w k l)) z_is (h v shift)),
+    λ h v shift. below y z (needed_by t (defining_function v w k l)) z_is (reaches_iff.0 h v shift),
+    λ h. reaches_iff.1 (λ v shift. above y z (needed_by t (defining_function v w k l)) z_is (h v shift)),
   )
     where
-      below : (y z t : ℤ) → z ≡ pos 0 -ℤ y → t ≤ℤ z → y ≤ℤ neg_ℤ t
-      below y z t h k = omega (arith, ints)
+      below : (y z n : ℤ) → z ≡ pos 0 -ℤ y → n ≤ℤ z → y ≤ℤ neg_ℤ n
+      below y z n h k = omega (arith, ints)
 
-      above : (y z t : ℤ) → z ≡ pos 0 -ℤ y → y ≤ℤ neg_ℤ t → t ≤ℤ z
-      above y z t h k = omega (arith, ints)
+      above : (y z n : ℤ) → z ≡ pos 0 -ℤ y → y ≤ℤ neg_ℤ n → n ≤ℤ z
+      above y z n h k = omega (arith, ints)
 
 -- the negative of a difference fits its type
 pub negative_fits : (t : ℤ) → unsigned_abs t ≤ 2 ^ 77 → FitsSigned w128 (pos 0 -ℤ t)
@@ -85,42 +77,40 @@ negative_fits t h = fits_signed_from_abs w128 (pos 0 -ℤ t) (omega (arith, ints
 -- ---- the extremes
 
 -- larger functions need more
-product_mono : (H p : ℤ) (a b : ℕ) → pos 0 ≤ℤ H → pos 0 ≤ℤ p → a ≤ b → (H *ℤ (pos a *ℤ p)) ≤ℤ (H *ℤ (pos b *ℤ p))
-product_mono (pos h) (pos q) a b low low' less = as_whole (h * (a * q)) (h * (b * q)) (mul-le-mul_left h (mul-le-mul_right q less))
+product_mono : (R : ℤ) (a b : ℕ) → pos 0 ≤ℤ R → a ≤ b → (R *ℤ pos a) ≤ℤ (R *ℤ pos b)
+product_mono (pos r) a b low less = as_whole (r * a) (r * b) (mul-le-mul_left r less)
   where
     as_whole : (m n : ℕ) → m ≤ n → pos m ≤ℤ pos n
     as_whole m n h = omega (arith, ints)
-product_mono (pos h) (negsuc q) a b low low' less = absurd low'.le
-product_mono (negsuc h) p a b low low' less = absurd low.le
+product_mono (negsuc r) a b low less = absurd low.le
 
-rounded_up_mono : (m n d : ℤ) → pos 1 ≤ℤ d → m ≤ℤ n → rounded_up m d ≤ℤ rounded_up n d
-rounded_up_mono m n (pos d) positive h = rounded_mono true (rounded_up m (pos d)) m (rounded_up n (pos d)) n d (omega (arith, ints))
-    (rounded_up_is_ceiling m (pos d) positive) (rounded_up_is_ceiling n (pos d) positive) h
-rounded_up_mono m n (negsuc d) positive h = absurd positive.le
+measured_mono : (m : Measure) (s most : Sizes) → AreAtMost s most → measured m s ≤ measured m most
+measured_mono Reach s most h = h.reach
+measured_mono Bend s most h = h.bend
 
-needed_mono : (bits low : ℕ) (H : ℤ) (r : Neighbourhood) (a b c d : ℕ) → pos 0 ≤ℤ H → IsNeighbourhood r → a ≤ b → c ≤ d
-    → needed_units bits low H r a c ≤ℤ needed_units bits low H r b d
-needed_mono bits low H r a b c d positive near lighter slower =
-    let drift : drift_units H r c ≤ℤ drift_units H r d = rounded_up_mono (H *ℤ (pos c *ℤ r.radius)) (H *ℤ
-    (pos d *ℤ r.radius)) r.centre.den near.angles.positive
-    (product_mono H r.radius c d positive near.at_least slower) in
-    let factor : 1 + a ≤ 1 + b = omega arith in
-    let margin : 2 ^ (bits - low) * (1 + a) ≤ 2 ^ (bits - low) * (1 + b) = mul-le-mul_left (2 ^ (bits - low)) factor in
-    add_up (drift_units H r c) (drift_units H r d) (2 ^ (bits - low) * (1 + a)) (2 ^ (bits - low) * (1 + b)) drift margin
+needed_mono : (t : Threshold) (s most : Sizes) → IsThreshold t → AreAtMost s most → needed_at t s ≤ℤ needed_at t most
+needed_mono t s most is h =
+    let lighter = h.weight in
+    let factor : 1 + s.weight ≤ 1 + most.weight = omega (arith, lighter) in
+    let some : pos 0 ≤ℤ t.slack = from_one t.slack is.slack_at_least in
+    add_up (rounded_up (t.rate *ℤ pos (measured t.measure s)) t.parts) (rounded_up (t.rate *ℤ pos (measured t.measure most)) t.parts)
+    (t.slack *ℤ pos (1 + s.weight)) (t.slack *ℤ pos (1 + most.weight)) s.weight most.weight lighter
+    (rounded_up_mono (t.rate *ℤ pos (measured t.measure s)) (t.rate *ℤ pos (measured t.measure most)) t.parts is.parts_at_least
+    (product_mono t.rate (measured t.measure s) (measured t.measure most) is.rate_at_least (measured_mono t.measure s most h)))
+    (product_mono t.slack (1 + s.weight) (1 + most.weight) some factor)
   where
-    add_up : (x y : ℤ) (m n : ℕ) → x ≤ℤ y → m ≤ n → (pos (256 * a) +ℤ (x +ℤ pos m)) ≤ℤ (pos (256 * b) +ℤ (y +ℤ pos n))
-    add_up x y m n h k = omega (arith, ints, lighter)
+    from_one : (z : ℤ) → pos 1 ≤ℤ z → pos 0 ≤ℤ z
+    from_one z h = omega (arith, ints)
+
+    add_up : (x y m n : ℤ) (a b : ℕ) → a ≤ b → x ≤ℤ y → m ≤ℤ n → (pos (256 * a) +ℤ (x +ℤ m)) ≤ℤ (pos (256 * b) +ℤ (y +ℤ n))
+    add_up x y m n a b h k l = omega (arith, ints)
 
 -- so what sizes that are at least those of a function need is at least what the function needs
-pub most_suffices : (bits low : ℕ) (L H : ℤ) (r : Neighbourhood) (w : List ℕ) (k l : ℕ) (most : Sizes) (z : ℤ) → H ≡ L +ℤ pos 1
-    → FromSomeOn (λ n. Encloses bits (record { lo = L; hi = H }) (pi_sum n)) → IsNeighbourhood r
-    → ((v : FormalPoint) → IsShift w v → AreAtMost (sizes_of (defining_function v w k l)) most)
-    → needed_units bits low H r most.weight most.reach ≤ℤ z → Reaches (needed bits low H r) w k l z
-most_suffices bits low L H r w k l most z unit pi near at_most reached v shift =
-    let f = defining_function v w k l in
-    let h = at_most v shift in
-    through (needed bits low H r f) (needed_units bits low H r most.weight most.reach) z
-    (needed_mono bits low H r (weight f) most.weight (reach f) most.reach (pi_at_least bits L H unit pi) near h.weight h.reach) reached
+pub most_suffices : (t : Threshold) (w : List ℕ) (k l : ℕ) (most : Sizes) (z : ℤ) → IsThreshold t
+    → ((v : FormalPoint) → IsShift w v → AreAtMost (sizes_of (defining_function v w k l)) most) → needed_at t most ≤ℤ z → Reaches (needed_by t) w k l z
+most_suffices t w k l most z is at_most reached v shift =
+    let s = sizes_of (defining_function v w k l) in
+    through (needed_at t s) (needed_at t most) z (needed_mono t s most is (at_most v shift)) reached
   where
     through : (a b c : ℤ) → a ≤ℤ b → b ≤ℤ c → a ≤ℤ c
     through a b c h k = omega (arith, ints)
@@ -135,34 +125,32 @@ reaches_more needs w k l z y more h v shift = through (needs (defining_function 
 -- ---- a fall
 
 -- each function needs at least one unit
-needed_positive : (bits low : ℕ) (H : ℤ) (r : Neighbourhood) (f : FormalPoint) → pos 0 ≤ℤ H → IsNeighbourhood r → pos 1 ≤ℤ needed bits low H r f
-needed_positive bits low H r f positive near =
-    let some : 1 ≤ 2 ^ (bits - low) = pow_pos (bits - low) in
-    let one : 1 ≤ 1 + weight f = omega arith in
-    let margin : 1 * 1 ≤ 2 ^ (bits - low) * (1 + weight f) = mul-le-mul some one in
-    add_up (256 * weight f) (drift_units H r (reach f)) (2 ^ (bits - low) * (1 + weight f)) (drift_at_least H r (reach f) positive near) margin
+needed_positive : (t : Threshold) (f : FormalPoint) → IsThreshold t → pos 1 ≤ℤ needed_by t f
+needed_positive t f is =
+    let s = sizes_of f in
+    let product : pos 0 ≤ℤ (t.rate *ℤ pos (measured t.measure s)) = product_at_least t.rate (measured t.measure s) is.rate_at_least in
+    add_up (256 * s.weight) (rounded_up (t.rate *ℤ pos (measured t.measure s)) t.parts) (t.slack *ℤ pos (1 + s.weight))
+    (rounded_up_at_least (t.rate *ℤ pos (measured t.measure s)) t.parts product is.parts_at_least)
+    (margin_at_least t.slack s.weight is.slack_at_least)
   where
-    add_up : (a : ℕ) (x : ℤ) (m : ℕ) → pos 0 ≤ℤ x → 1 * 1 ≤ m → pos 1 ≤ℤ (pos a +ℤ (x +ℤ pos m))
+    add_up : (a : ℕ) (x m : ℤ) → pos 0 ≤ℤ x → pos 1 ≤ℤ m → pos 1 ≤ℤ (pos a +ℤ (x +ℤ m))
     add_up a x m h k = omega (arith, ints)
 
 -- so a difference from 0 on does not fall below
-pub no_fall : (bits low : ℕ) (L H : ℤ) (r : Neighbourhood) (w : List ℕ) (k l : ℕ) (z : ℤ) → H ≡ L +ℤ pos 1
-    → FromSomeOn (λ n. Encloses bits (record { lo = L; hi = H }) (pi_sum n)) → IsNeighbourhood r → HasShift w → pos 0 ≤ℤ z
-    → ¬ (FallsBelow (needed bits low H r) w k l z)
-no_fall bits low L H r w k l z unit pi near shift above falls =
+pub no_fall : (t : Threshold) (w : List ℕ) (k l : ℕ) (z : ℤ) → IsThreshold t → HasShift w → pos 0 ≤ℤ z → ¬ (FallsBelow (needed_by t) w k l z)
+no_fall t w k l z is shift above falls =
     let f = defining_function shift.0 w k l in
-    contrary z (needed bits low H r f) above (falls shift.0 shift.1) (needed_positive bits low H r f (pi_at_least bits L H unit pi) near)
+    contrary z (needed_by t f) above (falls shift.0 shift.1) (needed_positive t f is)
   where
-    contrary : (z t : ℤ) → pos 0 ≤ℤ z → z ≤ℤ neg_ℤ t → pos 1 ≤ℤ t → ⊥
-    contrary z t h k p = absurd (omega (arith, ints))
+    contrary : (z n : ℤ) → pos 0 ≤ℤ z → z ≤ℤ neg_ℤ n → pos 1 ≤ℤ n → ⊥
+    contrary z n h k p = absurd (omega (arith, ints))
 
 -- and none does where the least one is from 0 on
-pub none_falls : (bits low : ℕ) (L H : ℤ) (r : Neighbourhood) (w : List ℕ) (uppers lowers : List ℤ) (least : ℤ) → H ≡ L +ℤ pos 1
-    → FromSomeOn (λ n. Encloses bits (record { lo = L; hi = H }) (pi_sum n)) → IsNeighbourhood r → HasShift w
+pub none_falls : (t : Threshold) (w : List ℕ) (uppers lowers : List ℤ) (least : ℤ) → IsThreshold t → HasShift w
     → ((i j : ℕ) → IsPlace w i → IsPlace w j → least ≤ℤ difference uppers lowers i j) → pos 0 ≤ℤ least
-    → ¬ (SomeFallsBelow (needed bits low H r) w uppers lowers)
-none_falls bits low L H r w uppers lowers least unit pi near shift below above some =
-    no_fall bits low L H r w some.upper some.row.lower (difference uppers lowers some.upper some.row.lower) unit pi near shift
+    → ¬ (SomeFallsBelow (needed_by t) w uppers lowers)
+none_falls t w uppers lowers least is shift below above some =
+    no_fall t w some.upper some.row.lower (difference uppers lowers some.upper some.row.lower) is shift
     (through least (difference uppers lowers some.upper some.row.lower) above
     (below some.upper some.row.lower some.is_upper some.row.is_lower)) some.row.falls
   where
@@ -170,11 +158,10 @@ none_falls bits low L H r w uppers lowers least unit pi near shift below above s
     through b c h k = omega (arith, ints)
 
 -- in a row none does either
-pub none_in_row : (bits low : ℕ) (L H : ℤ) (r : Neighbourhood) (w : List ℕ) (uppers lowers : List ℤ) (k : ℕ) (least : ℤ) → H ≡ L +ℤ pos 1
-    → FromSomeOn (λ n. Encloses bits (record { lo = L; hi = H }) (pi_sum n)) → IsNeighbourhood r → HasShift w
-    → ((l : ℕ) → IsPlace w l → least ≤ℤ difference uppers lowers k l) → pos 0 ≤ℤ least → ¬ (SomeInRowFalls (needed bits low H r) w uppers lowers k)
-none_in_row bits low L H r w uppers lowers k least unit pi near shift below above some =
-    no_fall bits low L H r w k some.lower (difference uppers lowers k some.lower) unit pi near shift
+pub none_in_row : (t : Threshold) (w : List ℕ) (uppers lowers : List ℤ) (k : ℕ) (least : ℤ) → IsThreshold t → HasShift w
+    → ((l : ℕ) → IsPlace w l → least ≤ℤ difference uppers lowers k l) → pos 0 ≤ℤ least → ¬ (SomeInRowFalls (needed_by t) w uppers lowers k)
+none_in_row t w uppers lowers k least is shift below above some =
+    no_fall t w k some.lower (difference uppers lowers k some.lower) is shift
     (through least (difference uppers lowers k some.lower) above (below some.lower some.is_lower)) some.falls
   where
     through : (b c : ℤ) → pos 0 ≤ℤ b → b ≤ℤ c → pos 0 ≤ℤ c

@@ -1,9 +1,5 @@
--- Margins: a slack above 0 gives a corridor at a point, and a margin in units.
-use Rattle.std.proofs.Common.{◌≡◌, refl, sym, ap, ◌∙◌, subst₂, ℕ, ◌+◌, ◌-◌, ◌*◌, ◌^◌, ◌≤◌, ℤ, pos, ◌+ℤ◌, ◌*ℤ◌, ◌≤ℤ◌, unsigned_abs, FitsSigned, [], ◌∷◌, arith}
-use Rattle.std.proofs.Common.{mul-le-mul}
-use Rattle.std.proofs.Math.Pow.{pow_mono}
-use Rattle.std.proofs.lemmas.Int.{ints, fits_signed_from_abs}
-use Rattle.std.specs.Int.{w128}
+-- Margins: a slack above 0 gives a corridor at a point, and a slack in units.
+use Rattle.std.proofs.Common.{◌≡◌, refl, ap, ◌∙◌, ℕ, ◌+◌, ◌-◌, ◌^◌, ◌≤◌, pos, [], ◌∷◌, arith}
 use Rattle.std.proofs.lemmas.Nat.{pow-add, pow_pos}
 use Rattle.ring_solver.specs.Expression.{num, ◌⊠◌}
 use Rattle.ring_solver.specs.Ordered.{times}
@@ -57,43 +53,3 @@ slack_units bits low u h =
     ∙ ring₄ ℚ_ring (λ s u U L. s ⊠ u ⊠ (U ⊠ L)) (λ s u U L. (s ⊠ L) ⊠ (U ⊠ u)) refl s u U L
     ∙ ap (λ t. t *ℚ (U *ℚ u)) (over-mul (pos 1) (2 ^ low) (pow_pos low))
     ∙ ring₂ ℚ_ring (λ U u. num 1 ⊠ (U ⊠ u)) (λ U u. U ⊠ u) refl U u
-
--- the margin in units, as it is computed from a slack u and a weight z
-pub record IsMargin (bits low w : ℕ) (u z : ℤ) : Type 0 where
-  pub slack : FitsSigned w128 u
-  pub weight : FitsSigned w128 z
-  pub factor : FitsSigned w128 (pos 1 +ℤ z)
-  pub product : FitsSigned w128 (u *ℤ (pos 1 +ℤ z))
-  pub is : u *ℤ (pos 1 +ℤ z) ≡ pos (2 ^ (bits - low) * (1 + w))
-  pub size : unsigned_abs (u *ℤ (pos 1 +ℤ z)) ≤ 2 ^ 76
-
-fits_128 : (n : ℕ) → n ≤ 2 ^ 120 → FitsSigned w128 (pos n)
-fits_128 n h = fits_signed_from_abs w128 (pos n) (omega arith)
-
-margin_exactly : (bits low w : ℕ) → bits ≤ 60 → w ≤ 32768 → IsMargin bits low w (pos (2 ^ (bits - low))) (pos w)
-margin_exactly bits low w room light =
-    let below : bits - low ≤ 60 = omega arith in
-    let units : 2 ^ (bits - low) ≤ 2 ^ 60 = pow_mono below in
-    let factor : 1 + w ≤ 2 ^ 16 = omega arith in
-    let all : 2 ^ (bits - low) * (1 + w) ≤ 2 ^ 60 * 2 ^ 16 = mul-le-mul units factor in
-    record {
-      slack = fits_128 (2 ^ (bits - low)) (omega arith);
-      weight = fits_128 w (omega arith);
-      factor = fits_128 (1 + w) (omega arith);
-      product = fits_128 (2 ^ (bits - low) * (1 + w)) (omega arith);
-      is = refl;
-      size = smaller (2 ^ (bits - low) * (1 + w)) all;
-    }
-  where
-    smaller : (n : ℕ) → n ≤ 2 ^ 60 * 2 ^ 16 → unsigned_abs (pos n) ≤ 2 ^ 76
-    smaller n h = omega arith
-
-pub margin_of : (bits low w : ℕ) (u from : ℤ) → bits ≤ 60 → w ≤ 32768 → u ≡ pos (2 ^ (bits - low)) → from ≡ pos w → IsMargin bits low w u from
-margin_of bits low w u from room light u_is from_is = subst₂ (IsMargin bits low w) (sym u_is) (sym from_is) (margin_exactly bits low w room light)
-
-pub margin_at : (bits low : ℕ) (u z from : ℤ) → bits ≤ 60 → pos 0 ≤ℤ z → z ≤ℤ pos 16384 → u ≡ pos (2 ^ (bits - low)) → from ≡ z
-    → IsMargin bits low (unsigned_abs z) u from
-margin_at bits low u z from room at_least at_most u_is from_is =
-    let size : unsigned_abs z ≤ 32768 = omega (arith, ints) in
-    let whole_is : z ≡ pos (unsigned_abs z) = omega (arith, ints) in
-    subst₂ (IsMargin bits low (unsigned_abs z)) (sym u_is) (sym (from_is ∙ whole_is)) (margin_exactly bits low (unsigned_abs z) room size)

@@ -34,17 +34,18 @@ use Rattle.gradient_bounds.specs.declared.neighbourhood.Neighbourhood.{Neighbour
 use Rattle.gradient_bounds.specs.declared.sine_low.SineLow.{SineLow}
 use Rattle.gradient_bounds.specs.Clear.{slack}
 use Rattle.gradient_bounds.specs.Corridor.{EachFunction, SomeFunction}
-use Rattle.gradient_bounds.specs.Decision.{AreNumbers, needed, EachReaches, SomeFallsBelow}
+use Rattle.gradient_bounds.specs.declared.threshold.Threshold.{Threshold}
+use Rattle.gradient_bounds.specs.Decision.{AreNumbers, threshold_by, needed_by, EachReaches, SomeFallsBelow}
 use Rattle.gradient_bounds.specs.Kept.{IsFilledAt, IsSmallEntry, IsNumberOf, AreUppers, AreLowers, IsPrepared}
 use Rattle.gradient_bounds.specs.HeightSums.{IsHeightSums, dirs_of}
 use Rattle.gradient_bounds.specs.Neighbourhood.{IsNeighbourhood, ball_of, IsClearIn, IsShutIn}
-use Rattle.gradient_bounds.specs.Table.{PreparedWord, IsDirOfHeight, IsTableOf, IsLowAt, number_in, bounds_in, centre_of, LowerEndReaches, UpperEndFalls}
+use Rattle.gradient_bounds.specs.Table.{PreparedWord, IsDirOfHeight, IsTableOf, IsLowAt, number_in, bounds_in, centre_of, LowerEndReaches, LowerEndIsAtLeast, UpperEndFalls}
 use Rattle.gradient_bounds.proofs.EachFunction.{has_shift}
 use Rattle.gradient_bounds.proofs.Numbering.{are_numbers, number_at}
-use Rattle.gradient_bounds.proofs.Numbers.{IsScale}
+use Rattle.gradient_bounds.proofs.Numbers.{IsScale, needed}
 use Rattle.gradient_bounds.proofs.Stepping.{difference_fits}
 use Rattle.gradient_bounds.proofs.Sums.{any_at, IsListed, number_difference, upper_listed, lower_listed, function_listed, bounds_hold}
-use Rattle.gradient_bounds.proofs.Tested.{IsTested, IsDriftIn, each_decided, each_clear, clear_each, some_decided, some_shut, shut_some}
+use Rattle.gradient_bounds.proofs.Tested.{IsTested, IsDriftIn, each_above, each_within, each_decided, each_clear, clear_each, some_decided, some_shut, shut_some}
 
 -- ---- a table that is filled again
 
@@ -133,8 +134,8 @@ pub record IsSomeTest (bits low high : ℕ) (pi : ℤ) (u : List ℕ) (us ls : L
   pub shut : SomeFallsBelow (needed bits low pi r) u us ls → SomeFunction now.word (IsShutIn (ball_of r) (slack low))
   pub found : SomeFunction now.word (IsShutIn (ball_of r) (slack high)) → SomeFallsBelow (needed bits low pi r) u us ls
 
-module _ (bits low high : ℕ) (L H : ℤ) (scale : IsScale bits low high L H) (w u : List ℕ) {s : HeightSums} (p : Option (Written × Written))
-    (table : List SineLow) (us ls us' ls' : List ℤ) (h : IsPrepared bits w u s p table us ls) (us_is : us' ≡ us) (ls_is : ls' ≡ ls) where
+module _ (bits : ℕ) (w u : List ℕ) {s : HeightSums} (p : Option (Written × Written)) (table : List SineLow) (us ls us' ls' : List ℤ)
+    (h : IsPrepared bits w u s p table us ls) (us_is : us' ≡ us) (ls_is : ls' ≡ ls) where
   tested : IsTested w table us ls
   tested = record { word = h.word; stable = h.stable; directions = h.directions; uppers = h.uppers; lowers = h.lowers }
 
@@ -159,8 +160,30 @@ module _ (bits low high : ℕ) (L H : ℤ) (scale : IsScale bits low high L H) (
     λ e. subst (λ v. SomeFallsBelow needs v us' ls') (sym h.same_word) (subst₂ (λ a b. SomeFallsBelow needs w a b) (sym us_is) (sym ls_is) e),
   )
 
-  module _ (now : PreparedWord) (view : ◌≡◌ {A = PreparedWord} (record { word = w; point = p; table = table }) now) (x y : Written) (at : now.point
-      ≡ Some (x, y))
+  -- what the decision by any threshold says of the table
+  pub threshold_test : (now : PreparedWord) → ◌≡◌ {A = PreparedWord} (record { word = w; point = p; table = table }) now → (t : Threshold)
+      → EachReaches (needed_by t) u us' ls' ↔ EachFunction now.word (LowerEndIsAtLeast (threshold_by t) now.table)
+  threshold_test now view t =
+      let above = each_above w table us ls tested t in
+      let kept = each_kept (needed_by t) in
+      subst (λ (n : PreparedWord). EachReaches (needed_by t) u us' ls' ↔ EachFunction n.word (LowerEndIsAtLeast (threshold_by t) n.table)) view
+      (λ e. above.0 (kept.0 e), λ e. kept.1 (above.1 e))
+
+  -- and where the values of the functions lie
+  pub values_within : (now : PreparedWord) → ◌≡◌ {A = PreparedWord} (record { word = w; point = p; table = table }) now
+      → IfSome now.point (λ q. EachFunction now.word (λ f. FromSomeOn (λ n. Encloses bits (bounds_in now.table f) (value_at n f (value q.0) (value q.1)))))
+  values_within now view =
+      subst (λ (m : PreparedWord).
+      IfSome m.point (λ q. EachFunction m.word (λ f. FromSomeOn (λ n. Encloses bits (bounds_in m.table f) (value_at n f (value q.0) (value q.1)))))) view
+      (at p h.filled)
+    where
+      at : (p : Option (Written × Written)) → IsFilledAt bits p table
+          → IfSome p (λ q. EachFunction w (λ f. FromSomeOn (λ n. Encloses bits (bounds_in table f) (value_at n f (value q.0) (value q.1)))))
+      at None filled = filled
+      at (Some q) filled = each_within w table us ls tested bits (value q.0) (value q.1) filled
+
+  module _ (low high : ℕ) (L H : ℤ) (scale : IsScale bits low high L H) (now : PreparedWord)
+      (view : ◌≡◌ {A = PreparedWord} (record { word = w; point = p; table = table }) now) (x y : Written) (at : now.point ≡ Some (x, y))
       (r : Neighbourhood) (near : IsNeighbourhood r) (x_is : (ball_of r).x ≡ value x) (y_is : (ball_of r).y ≡ value y) (drift : FormalPoint
       → ℤ) (drift_is : IsDriftIn H r drift) where
     filled : All (IsLowAt bits (ball_of r).x (ball_of r).y) table
@@ -172,20 +195,20 @@ module _ (bits low high : ℕ) (L H : ℤ) (scale : IsScale bits low high L H) (
 
     pub each_test : IsEachTest bits low high H u us' ls' r drift now
     each_test =
-        let d = each_decided bits low high L H scale w table us ls tested r near filled drift drift_is in
+        let d = each_decided w table us ls tested bits low high L H scale r near filled drift drift_is in
         subst (IsEachTest bits low high H u us' ls' r drift) view (record {
           decided = (λ e. d.0 ((each_kept needs).0 e), λ e. (each_kept needs).1 (d.1 e));
-          clear = λ e. each_clear bits low high L H scale w table us ls tested r near filled drift drift_is ((each_kept needs).0 e);
-          found = λ e. (each_kept needs).1 (clear_each bits low high L H scale w table us ls tested r near filled drift drift_is e);
+          clear = λ e. each_clear w table us ls tested bits low high L H scale r near filled drift drift_is ((each_kept needs).0 e);
+          found = λ e. (each_kept needs).1 (clear_each w table us ls tested bits low high L H scale r near filled drift drift_is e);
         })
 
     pub some_test : IsSomeTest bits low high H u us' ls' r drift now
     some_test =
-        let d = some_decided bits low high L H scale w table us ls tested r near filled drift drift_is in
+        let d = some_decided w table us ls tested bits low high L H scale r near filled drift drift_is in
         subst (IsSomeTest bits low high H u us' ls' r drift) view (record {
           decided = (λ e. d.0 ((some_kept needs).0 e), λ e. (some_kept needs).1 (d.1 e));
-          shut = λ e. some_shut bits low high L H scale w table us ls tested r near filled drift drift_is ((some_kept needs).0 e);
-          found = λ e. (some_kept needs).1 (shut_some bits low high L H scale w table us ls tested r near filled drift drift_is e);
+          shut = λ e. some_shut w table us ls tested bits low high L H scale r near filled drift drift_is ((some_kept needs).0 e);
+          found = λ e. (some_kept needs).1 (shut_some w table us ls tested bits low high L H scale r near filled drift drift_is e);
         })
 
 -- ---- centres of boxes

@@ -6,11 +6,14 @@ use Rattle.std.specs.Int.{int_div_euclid}
 use Rattle.std.specs.List.{All}
 use Rattle.edge_words.specs.Letters.{IsPlace}
 use Rattle.exp_sums.specs.FormalPoint.{FormalPoint}
-use Rattle.exp_sums.specs.Limits.{weight}
-use Rattle.exp_sums.specs.Reach.{reach}
+use Rattle.exp_sums.specs.declared.sizes.Sizes.{Sizes}
 use Rattle.unfolding.specs.Shift.{IsShift}
 use Rattle.defining_functions.specs.Functions.{defining_function}
+use Rattle.defining_functions.specs.Sizes.{sizes_of}
 use Rattle.gradient_bounds.specs.declared.neighbourhood.Neighbourhood.{Neighbourhood}
+use Rattle.gradient_bounds.specs.declared.threshold.Measure.{Measure}
+use Rattle.gradient_bounds.specs.declared.threshold.Measure.TheVariants.{Reach, Bend}
+use Rattle.gradient_bounds.specs.declared.threshold.Threshold.{Threshold}
 
 -- ---- what a function needs
 
@@ -18,26 +21,43 @@ use Rattle.gradient_bounds.specs.declared.neighbourhood.Neighbourhood.{Neighbour
 abbrev pub rounded_up : ℤ → ℤ → ℤ
 rounded_up n d = neg_ℤ (int_div_euclid (neg_ℤ n) d)
 
--- The drift in units, where pi is at most `pi` units: pi·reach·radius / den, rounded up. So far may the value of a function with this reach change
--- from the centre of a neighbourhood to another point of it.
-abbrev pub drift_units : ℤ → Neighbourhood → ℕ → ℤ
-drift_units pi r reach = rounded_up (pi *ℤ (pos reach *ℤ r.radius)) r.centre.den
-
 -- the slack 2^−low in units, for each unit of the weight and one more
 abbrev pub margin_units : ℕ → ℕ → ℕ → ℤ
 margin_units bits low weight = pos (2 ^ (bits - low) * (1 + weight))
 
--- drift and margin
-abbrev pub threshold_units : ℕ → ℕ → ℤ → Neighbourhood → ℕ → ℕ → ℤ
-threshold_units bits low pi r weight reach = drift_units pi r reach +ℤ margin_units bits low weight
+-- the size that a threshold measures
+abbrev pub measured : Measure → Sizes → ℕ
+measured Reach s = s.reach
+measured Bend s = s.bend
+
+-- a threshold in units: rate · size / parts, rounded up, and the slack for each unit of the weight and one more
+abbrev pub threshold_at : Threshold → Sizes → ℤ
+threshold_at t s = rounded_up (t.rate *ℤ pos (measured t.measure s)) t.parts +ℤ t.slack *ℤ pos (1 + s.weight)
 
 -- and the errors of the sines: with as much the least value that the number allows reaches the threshold
-abbrev pub needed_units : ℕ → ℕ → ℤ → Neighbourhood → ℕ → ℕ → ℤ
-needed_units bits low pi r weight reach = pos (256 * weight) +ℤ threshold_units bits low pi r weight reach
+abbrev pub needed_at : Threshold → Sizes → ℤ
+needed_at t s = pos (256 * s.weight) +ℤ threshold_at t s
 
--- what a function needs
-abbrev pub needed : ℕ → ℕ → ℤ → Neighbourhood → FormalPoint → ℤ
-needed bits low pi r f = needed_units bits low pi r (weight f) (reach f)
+-- what a function has to reach, and what its number has to
+abbrev pub threshold_by : Threshold → FormalPoint → ℤ
+threshold_by t f = threshold_at t (sizes_of f)
+
+abbrev pub needed_by : Threshold → FormalPoint → ℤ
+needed_by t f = needed_at t (sizes_of f)
+
+-- a threshold whose numbers are so small that products of them fit
+pub record IsThreshold (t : Threshold) : Type 0 where
+  pub rate_at_least : pos 0 ≤ℤ t.rate
+  pub rate_at_most : t.rate ≤ℤ pos (2 ^ 66)
+  pub parts_at_least : pos 1 ≤ℤ t.parts
+  pub parts_at_most : t.parts ≤ℤ pos (2 ^ 42)
+  pub slack_at_least : pos 1 ≤ℤ t.slack
+  pub slack_at_most : t.slack ≤ℤ pos (2 ^ 60)
+
+-- In a neighbourhood, where pi is at most `pi` units: the drift, pi·reach·radius / den rounded up, and the slack 2^−low. So far may the value of a
+-- function with this reach change from the centre to another point.
+abbrev pub drift_threshold : ℕ → ℕ → ℤ → Neighbourhood → Threshold
+drift_threshold bits low pi r = record { measure = Reach; rate = pi *ℤ r.radius; parts = r.centre.den; slack = pos (2 ^ (bits - low)) }
 
 -- ---- pairs of corners
 

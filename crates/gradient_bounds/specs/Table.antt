@@ -92,6 +92,10 @@ LowerEndReaches bits low drift table f = (drift f +ℤ margin_units bits low (we
 abbrev pub UpperEndFalls : ℕ → ℕ → (FormalPoint → ℤ) → List SineLow → FormalPoint → Type 0
 UpperEndFalls bits low drift table f = (bounds_in table f).hi ≤ℤ neg_ℤ (drift f +ℤ margin_units bits low (weight f))
 
+-- the lower end is at least a threshold of the function's own
+abbrev pub LowerEndIsAtLeast : (FormalPoint → ℤ) → List SineLow → FormalPoint → Type 0
+LowerEndIsAtLeast threshold table f = threshold f ≤ℤ (bounds_in table f).lo
+
 -- ---- points
 
 -- the centre of a box, as it is written

@@ -7,22 +7,26 @@
 
 mod bounds;
 mod decision;
+mod differences;
 mod directions;
 mod end_numbers;
 mod extremes;
+mod falls;
 mod fault;
 mod filled;
 mod height_numbers;
 mod height_sums;
 pub mod laws;
 mod most;
+mod needs;
 mod neighbourhood;
 mod places;
 mod prepared;
 mod sine_low;
 mod table;
-mod thresholds;
+mod threshold;
 
 pub use fault::PrepareFault;
 pub use prepared::Prepared;
 pub use sine_low::SineLow;
+pub use threshold::{Measure, Threshold};

@@ -1,10 +1,13 @@
 //! Neighbourhoods in the angle plane: points and boxes.
-ghost use Rattle.std.specs.Prelude.{◌≡◌, ◌+◌, ◌^◌, ◌≤◌, pos};
+ghost use Rattle.std.specs.Prelude.{◌≡◌, ◌+◌, ◌-◌, ◌^◌, ◌≤◌, pos};
 ghost use Rattle.rat_core.specs.Fraction.{whole, ◌+ℚ◌, ◌<ℚ◌};
 ghost use Rattle.rat_core.specs.Written.{value};
 ghost use Rattle.rational_polygon.specs.Square.{centre, half_side};
+ghost use Rattle.gradient_bounds.specs.Decision.{IsThreshold, drift_threshold};
 ghost use Rattle.gradient_bounds.specs.Neighbourhood.{IsNeighbourhood, ball_of};
 
+use crate::threshold::{Measure, Threshold};
+use directed_fixed::Scale;
 use rat_core::Frac;
 use rational_polygon::GridBox;
 use sine_fixed::{Angles, over_one_denominator};
@@ -50,4 +53,26 @@ pub fn square(place: GridBox) -> Neighbourhood
         },
         radius: 1,
     }
+}
+
+/// What functions have to reach at the centre: pi times the reach times the radius, the drift, and the margin with the
+/// narrower slack of the scale.
+pub fn drift_threshold<S: Scale>(neighbourhood: &Neighbourhood) -> Threshold
+    requires { IsNeighbourhood neighbourhood.now }
+    ensures is { result ≡ drift_threshold S.BITS S.LOW_BITS S.PI_HI neighbourhood.now }
+    ensures threshold { IsThreshold result }
+{
+    Threshold {
+        measure: Measure::Reach,
+        rate: S::PI_HI * neighbourhood.radius,
+        parts: neighbourhood.centre.den,
+        slack: slack_units::<S>(),
+    }
+}
+
+/// The narrower slack, in units.
+fn slack_units<S: Scale>() -> i128
+    ensures { result ≡ pos (2 ^ (S.BITS - S.LOW_BITS)) }
+{
+    1 << (S::BITS - S::LOW_BITS)
 }

@@ -49,8 +49,8 @@ pub(crate) fn check<S: Source, K: Sink>(alloc: Global, src: &mut S, out: &mut K)
     }
 }
 
-// What a refusal says of the file.
-fn status_of_refusal(reason: Reason) -> Status
+/// What a refusal says of a file.
+pub(crate) fn status_of_refusal(reason: Reason) -> Status
     ensures { result ≡ refusal_status reason }
 {
     match reason {

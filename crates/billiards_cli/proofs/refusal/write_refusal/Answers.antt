@@ -1,10 +1,4 @@
-use Rattle.std.proofs.Common.{◌≡◌}
-use Rattle.std.specs.Fmt.{decimal}
-use Rattle.line_grammar.specs.Offence.{number_of}
 use Rattle.billiards_cli.proofs.refusal.write_refusal.Goals as goal
 
 pub returns-clause-text : goal.returns-clause-text
-returns-clause-text g c =
-    let line : c.digits.result.now ≡ decimal c.args.line = cc in
-    let reason : c.digits-2.result.now ≡ decimal (number_of c.args.reason) = cc in
-    rw (← line, ← reason) c.put_all.ensures.text
+returns-clause-text g c = rw c.number.ensures at c.write_numbered_refusal.ensures.text

@@ -57,3 +57,6 @@ pub returns-in-DrawnPath-clause-serves : goal.returns-in-DrawnPath-clause-serves
 returns-in-DrawnPath-clause-serves g c =
     let s = g.S.Source in
     rw c.in-DrawnPath.is (c.drawn_path.ensures.serves (s.left c.args.src.now) (s.faults c.args.src.now))
+
+pub returns-in-Merge-clause-serves : goal.returns-in-Merge-clause-serves
+returns-in-Merge-clause-serves g c = rw c.in-Merge.is c.merge.ensures.serves

@@ -2,16 +2,16 @@ use Rattle.std.proofs.Common.{ℕ, ◌≤ℤ◌, subst, sym, FitsSigned}
 use Rattle.std.specs.Int.{w128}
 use Rattle.std.proofs.lemmas.Int.{to_z-of_z}
 use Rattle.edge_words.specs.Letters.{IsPlace}
-use Rattle.gradient_bounds.specs.Decision.{needed, difference, Reaches, EachReaches}
+use Rattle.gradient_bounds.specs.Decision.{needed_by, difference, Reaches, EachReaches}
 use Rattle.gradient_bounds.proofs.Deciding.{holds, then_not, reaches_more}
 use Rattle.gradient_bounds.proofs.decision.each_reaches.Goals as goal
 
 pub returns-then-not-reaches : goal.returns-then-not-reaches
-returns-then-not-reaches g c =
+returns-then-not-reaches c =
     let w = c.args.functions.now in
     let us = c.args.uppers.now in
     let ls = c.args.lowers.now in
-    let N = needed g.S.Scale.BITS g.S.Scale.LOW_BITS g.S.Scale.PI_HI c.args.neighbourhood.now in
+    let N = needed_by c.args.threshold.now in
     let k = c.nearest-k.result.0 in
     let l = c.nearest-k.result.1 in
     let least : FitsSigned w128 c.difference-least.result = record { sfits = c.difference-least.type_inv } in
@@ -19,11 +19,11 @@ returns-then-not-reaches g c =
     (λ each. subst (Reaches N w k l) (sym c.difference-least.ensures.is) (each k l c.nearest-k.ensures.upper c.nearest-k.ensures.lower))
 
 pub returns-then-is_at_least : goal.returns-then-is_at_least
-returns-then-is_at_least g c =
+returns-then-is_at_least c =
     let w = c.args.functions.now in
     let us = c.args.uppers.now in
     let ls = c.args.lowers.now in
-    let N = needed g.S.Scale.BITS g.S.Scale.LOW_BITS g.S.Scale.PI_HI c.args.neighbourhood.now in
+    let N = needed_by c.args.threshold.now in
     let least : FitsSigned w128 c.difference-least.result = record { sfits = c.difference-least.type_inv } in
     let most : FitsSigned w128 c.enough_for_all-most.result = record { sfits = c.enough_for_all-most.type_inv } in
     let below : (i j : ℕ) → IsPlace w i → IsPlace w j → c.difference-least.result ≤ℤ difference us ls i j =

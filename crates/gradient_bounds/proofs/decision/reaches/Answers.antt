@@ -5,8 +5,8 @@ use Rattle.gradient_bounds.proofs.Deciding.{reaches_iff}
 use Rattle.gradient_bounds.proofs.decision.reaches.Goals as goal
 
 pub returns : goal.returns
-returns g c =
+returns c =
     let z : FitsSigned w128 c.args.difference = c.ranges.difference in
-    reaches_iff g.S.Scale.BITS g.S.Scale.LOW_BITS g.S.Scale.PI_HI c.args.neighbourhood.now c.args.functions.now c.args.k c.args.l c.sizes.result
+    reaches_iff c.args.threshold.now c.args.functions.now c.args.k c.args.l c.sizes.result
     c.reaches_needed.result c.args.difference
     (record { shift = c.sizes.ensures.shift; sizes = c.sizes.ensures.is; test = simp to_z-of_z at c.reaches_needed.ensures })

@@ -1,6 +1,9 @@
 use Rattle.std.proofs.Common.{[], refl, inr}
 use Rattle.covering_file.specs.Header.{job_text}
+use Rattle.covering_file.specs.HeaderPart.{job_part}
+use Rattle.covering_file.proofs.HeaderLaws.{job_never_offends}
 use Rattle.billiards_cli.specs.Commands.Cover.{IsJobText, CoverWantsMemory}
+use Rattle.billiards_cli.specs.Services.{ReadsWhole}
 use Rattle.billiards_cli.specs.declared.status.Status.TheVariants.{Done, NotShown, WriteFault, OutOfMemory, Full}
 use Rattle.billiards_cli.proofs.CoverAnswers.{cover_answer, covers_job, job_begins}
 use Rattle.billiards_cli.proofs.commands.cover.cover_job.Goals as goal
@@ -61,9 +64,15 @@ pub returns-in-Err-Memory-clause-serves : goal.returns-in-Err-Memory-clause-serv
 returns-in-Err-Memory-clause-serves g c = λ left left' faults faults' may_be end stood.
     let h = c.args.header.now in
     let right : CoverWantsMemory (job_text h) [] = record { begins = job_begins h c.requires; text_is = refl } in
+    let whole : ReadsWhole job_part.grammar left left' = record {
+      input = job_text h;
+      may_be = may_be;
+      taken = λ line reason. job_never_offends h line reason c.requires;
+      ended = end;
+    } in
     record {
       leaves = record {
-        answer = cover_answer left left' (job_text h) OutOfMemory [] tt may_be right (inr end);
+        answer = cover_answer left left' (job_text h) OutOfMemory [] tt may_be right (inr whole);
         unwritten = rw c.in-Err-Memory.field-0-is at c.in-Err-Memory.ensures.text;
       };
       counts = (stood, rw c.in-Err-Memory.field-0-is at c.in-Err-Memory.ensures.cause);

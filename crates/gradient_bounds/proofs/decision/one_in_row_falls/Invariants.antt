@@ -1,9 +1,0 @@
-use Rattle.std.proofs.Common.{ℕ, ◌<◌, slice_index_or}
-use Rattle.gradient_bounds.specs.Decision.{needed, difference, FallsBelow}
-use Rattle.gradient_bounds.proofs.decision.one_in_row_falls.Given as goal
-
--- none of the lower corners so far
-abbrev pub invariant-loop-l : goal.invariant-loop-l
-invariant-loop-l g l = (j : ℕ) → j < l.l-index
-    → ¬ (FallsBelow (needed g.S.Scale.BITS g.S.Scale.LOW_BITS g.S.Scale.PI_HI l.neighbourhood) l.functions l.k (slice_index_or l.edges j 0)
-    (difference l.uppers l.lowers l.k (slice_index_or l.edges j 0)))

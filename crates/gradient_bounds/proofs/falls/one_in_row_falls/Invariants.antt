@@ -1,0 +1,9 @@
+use Rattle.std.proofs.Common.{ℕ, ◌<◌, slice_index_or}
+use Rattle.gradient_bounds.specs.Decision.{needed_by, difference, FallsBelow}
+use Rattle.gradient_bounds.proofs.falls.one_in_row_falls.Given as goal
+
+-- none of the lower corners so far
+abbrev pub invariant-loop-l : goal.invariant-loop-l
+invariant-loop-l l = (j : ℕ) → j < l.l-index
+    → ¬ (FallsBelow (needed_by l.threshold) l.functions l.k (slice_index_or l.edges j 0)
+    (difference l.uppers l.lowers l.k (slice_index_or l.edges j 0)))
