@@ -26,7 +26,7 @@ use Rattle.billiards_cli.specs.declared.status.Status.TheVariants.{Done, NotShow
 use Rattle.billiards_cli.proofs.CheckAnswers.{check_answer_is_due}
 
 -- the text of a job does not offend
-job_is_not_refused : (input : List ℕ) (h : Heading) (line : ℕ) (reason : Reason) → IsJobText input h → IsRefusedJob input line reason → ⊥
+pub job_is_not_refused : (input : List ℕ) (h : Heading) (line : ℕ) (reason : Reason) → IsJobText input h → IsRefusedJob input line reason → ⊥
 job_is_not_refused input h line reason job refused =
     job_never_offends h line reason job.is_heading (subst (λ (xs : List ℕ). IsFirstOffence job_part.grammar xs line reason) job.text refused)
 

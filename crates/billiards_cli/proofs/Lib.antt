@@ -29,4 +29,12 @@ pub mod CornerRows
 pub mod FamilyAnswers
 pub mod OneAnswer
 pub mod UnfoldAnswers
+pub mod WholeFiles
 pub mod UpgradeAnswers
+pub mod DrawAnswers
+pub mod OneDrawing
+pub mod OneUpgrade
+pub mod OneJob
+pub mod OneVerdict
+pub mod OneCovering
+pub mod OneSearch

@@ -23,7 +23,7 @@ use Rattle.billiards_cli.specs.declared.status.Status.TheVariants as status
 use Rattle.billiards_cli.proofs.CheckAnswers.{check_answer_is_due}
 use Rattle.billiards_cli.proofs.MergeDue.{first_is_malformed}
 use Rattle.billiards_cli.proofs.MergeRounds.{same_files, stands_there}
-use Rattle.billiards_cli.proofs.UpgradeAnswers.{text_of_tree}
+use Rattle.billiards_cli.proofs.WholeFiles.{text_of_tree}
 
 none_open : (count : ℕ) → merged_status count ≡ status.Done → count ≡ 0
 none_open zero is = refl

@@ -14,10 +14,12 @@ pub data Extent : Type 0 where
   ToALine : Extent
   ToEither : Extent
 
+-- whether there is an input
 abbrev pub reads_input : Reading → Bool
 reads_input Nothing = false
 reads_input (By g) = true
 
+-- a command: what it reads, and what it may answer
 pub record Command : Type 1 where
   pub reads : Reading
   -- how much of the input it has read with a status

@@ -9,6 +9,7 @@ pub mod Search
 pub mod Tile
 pub mod Unfold
 pub mod Upgrade
+pub mod Draw
 pub mod Points
 pub mod Merge
 pub mod Family

@@ -46,6 +46,7 @@ pub use Rattle.covering_file.specs.Tree.{Tree, file_text}
 pub use Rattle.covering_file.specs.Covering.{IsCovered, IsCovering}
 
 -- Where `check` is done, the bytes that the source had left are one whole covering file whose region is covered, and none is left.
+-- `left` and `left'` are the bytes that the source has left before the run and after it: `Some bytes`, where it tells them.
 abbrev pub Headline : List (List ℕ) → Status → Option (List ℕ) → Option (List ℕ) → Type 0
 Headline arguments status left left' =
     arguments ≡ codes "check" ∷ [] → status ≡ Done → (bytes : List ℕ) → left ≡ Some bytes → IsCovering MAX_NODES bytes × IsAtEnd left'

@@ -1,5 +1,5 @@
--- The generated jobs: each of a right-angled triangle of acute triangles round the equilateral one, with the one word 123123. They are this
--- program's own.
+-- The generated jobs, with the one word 123123. The region of each is a right-angled triangle in the plane of angles: its points are acute triangles,
+-- the equilateral one among them. They are this program's own.
 use Rattle.std.specs.Prelude.{ℕ, ◌+◌, ◌-◌, ◌*◌, ◌≤◌, List, [], ◌∷◌}
 use Rattle.std.specs.declared.option.Option.{Option}
 use Rattle.rational_polygon.specs.Outline.{Outline}

@@ -8,6 +8,7 @@ pub mod Jobs
 pub mod SearchBounds
 pub mod TileDepths
 pub mod UpgradeVersions
+pub mod WholeFile
 pub mod Commands
 pub mod Requests
 pub mod Headline

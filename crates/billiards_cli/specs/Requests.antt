@@ -16,14 +16,16 @@ use Rattle.billiards_cli.specs.Commands.Demo.{demo_request, IsDemoAnswer, IsDemo
 use Rattle.billiards_cli.specs.Commands.Search.{search_request, IsSearchAnswer, IsSearchDue}
 use Rattle.billiards_cli.specs.Commands.Tile.{tile_request, IsTileAnswer, IsTileDue}
 use Rattle.billiards_cli.specs.Commands.Unfold.{unfold_request, IsUnfoldAnswer, IsUnfoldDue}
-use Rattle.billiards_cli.specs.Commands.Upgrade.{upgrade_request, upgrade_input, upgrade_reads_to, IsUpgradeAnswer, IsUpgradeDue}
+use Rattle.billiards_cli.specs.Commands.Upgrade.{upgrade_request, upgrade_reads_to, IsUpgradeAnswer, IsUpgradeDue}
+use Rattle.billiards_cli.specs.Commands.Draw.{draw_request, draw_reads_to, IsDrawAnswer, IsDrawDue}
 use Rattle.billiards_cli.specs.Commands.Points.{points_request, IsPointsAnswer, IsPointsDue}
 use Rattle.billiards_cli.specs.Commands.Merge.{merge_request, merge_input, merge_reads_to, IsMergeAnswer, IsMergeDue}
 use Rattle.billiards_cli.specs.Commands.Path.{path_request, IsPathAnswer, IsDrawnPathAnswer, IsPathDue}
 use Rattle.billiards_cli.specs.Commands.Family.{family_request, IsFamilyAnswer, IsFamilyDue, IsMembersAnswer, IsMembersDue}
+use Rattle.billiards_cli.specs.WholeFile.{file_input}
 use Rattle.billiards_cli.specs.declared.request.Request.{Request}
 use Rattle.billiards_cli.specs.declared.request.Request.TheVariants.{Word, Check, At, Cover, Job, Demo, Search, Tile, Unfold}
-use Rattle.billiards_cli.specs.declared.request.Request.TheVariants.{Upgrade, Points, Merge, Path, DrawnPath, Family, FamilyAt}
+use Rattle.billiards_cli.specs.declared.request.Request.TheVariants.{Upgrade, Points, Merge, Path, DrawnPath, Family, FamilyAt, Draw}
 
 -- the commands by their names: what the arguments after a name ask of it, if anything
 abbrev pub request_named : List ℕ → List (List ℕ) → Option Request
@@ -42,7 +44,8 @@ request_named name arguments =
     (if bytes_eq name (codes "merge") then merge_request arguments else
     (if bytes_eq name (codes "path") then path_request arguments else
     (if bytes_eq name (codes "family") then family_request arguments else
-    None)))))))))))))
+    (if bytes_eq name (codes "draw") then draw_request arguments else
+    None))))))))))))))
 
 abbrev pub request_of : List (List ℕ) → Option Request
 request_of [] = None
@@ -105,7 +108,7 @@ command_of (Unfold word triangle) = record {
   IsDue = λ input. IsUnfoldDue word;
 }
 command_of (Upgrade version) = record {
-  reads = By upgrade_input.grammar;
+  reads = By file_input.grammar;
   reads_to = upgrade_reads_to;
   IsRight = IsUpgradeAnswer version;
   IsDue = IsUpgradeDue;
@@ -145,4 +148,10 @@ command_of (FamilyAt texts triangle) = record {
   reads_to = λ status. ToALine;
   IsRight = λ input. IsMembersAnswer texts triangle;
   IsDue = λ input. IsMembersDue texts;
+}
+command_of Draw = record {
+  reads = By file_input.grammar;
+  reads_to = draw_reads_to;
+  IsRight = IsDrawAnswer;
+  IsDue = IsDrawDue;
 }

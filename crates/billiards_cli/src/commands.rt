@@ -3,6 +3,7 @@ pub(crate) mod at;
 pub(crate) mod check;
 pub(crate) mod cover;
 pub(crate) mod demo;
+pub(crate) mod draw;
 pub(crate) mod family;
 pub(crate) mod job;
 pub(crate) mod merge;

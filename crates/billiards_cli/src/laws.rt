@@ -1,11 +1,45 @@
 //! How much freedom right answers leave, and how those of one command go with those of another, over the definitions alone:
 //! each function's contract is a law. The program calls none.
 ghost use Rattle.billiards_cli.specs.Laws.{WordAnswerIsOne, AtAnswersDifferBetween, TileAnswersDifferBetween, CompleteIsAccepted, GeneratedIsJob};
-ghost use Rattle.billiards_cli.specs.Laws.{ClosedMergeIsCovering, SureFilesAreMerged, ClosedMergeIsAccepted};
+ghost use Rattle.billiards_cli.specs.Laws.{DrawAnswerIsOne, ClosedMergeIsCovering, SureFilesAreMerged, ClosedMergeIsAccepted};
+ghost use Rattle.billiards_cli.specs.Laws.{UpgradeAnswerIsOne, JobAnswerIsOne, CheckAnswersDifferBetween, CoverAnswersDifferBetween, SearchAnswersDifferBetween};
 
 /// Two right answers of `word` to one input, neither of which is that memory is wanting, have one status and one text.
 pub fn word_answer_is_one()
     ensures { WordAnswerIsOne }
+{}
+
+/// Two right answers of `draw` to one input, neither of which is that memory is wanting, have one status and one text.
+pub fn draw_answer_is_one()
+    ensures { DrawAnswerIsOne }
+{}
+
+/// Two right answers of `upgrade` to one input, neither of which is that memory is wanting, have one status and one text.
+pub fn upgrade_answer_is_one()
+    ensures { UpgradeAnswerIsOne }
+{}
+
+/// Two right answers of `job` have one status and one text.
+pub fn job_answer_is_one()
+    ensures { JobAnswerIsOne }
+{}
+
+/// Two right answers of `check` to one input, neither of which is that memory is wanting, have one status and one text, or else
+/// one of them names the line of a node whose word is clear with the narrower slack, and not with the wider one.
+pub fn check_answers_differ_between()
+    ensures { CheckAnswersDifferBetween }
+{}
+
+/// Two right answers of `cover` to one input, where memory is not wanting and the sink took all, have one status and one text, or
+/// else first differ at a box on which some listed word may be shown, and may be passed over.
+pub fn cover_answers_differ_between()
+    ensures { CoverAnswersDifferBetween }
+{}
+
+/// Two right answers of `search`, neither of which is that memory is wanting, have one status and one text, or else list a word
+/// that has a corridor at the triangle and is not clear there with the wider slack, and that the other does not list.
+pub fn search_answers_differ_between()
+    ensures { SearchAnswersDifferBetween }
 {}
 
 /// Two right answers of `at`, neither of which is that memory is wanting, have one status and one text, or else the word has

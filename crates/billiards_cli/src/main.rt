@@ -24,6 +24,7 @@ mod tile_depth;
 mod triangle;
 mod upgrade_version;
 mod usage;
+mod whole_file;
 mod word_argument;
 
 pub use args::Args;

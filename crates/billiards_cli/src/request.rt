@@ -9,6 +9,7 @@ use crate::commands::at::{self, at};
 use crate::commands::check::{self, check};
 use crate::commands::cover::{self, cover};
 use crate::commands::demo::{self, demo};
+use crate::commands::draw::{self, draw};
 use crate::commands::family::at_triangle::family_at;
 use crate::commands::family::{self, family};
 use crate::commands::job::{self, job};
@@ -87,6 +88,8 @@ pub(crate) enum Request<'a> {
         family: FamilyArgument<'a>,
         triangle: Triangle,
     },
+    /// The picture of a covering file that is read from the input.
+    Draw,
 }
 
 /// The request of a command line: its first argument is the name of a command.
@@ -122,6 +125,8 @@ pub(crate) fn parse(arguments: &Args) -> Option<Request<'_>>
         path::request(&arguments)
     } else if name == b"family".as_slice() {
         family::request(&arguments)
+    } else if name == b"draw".as_slice() {
+        draw::request(&arguments)
     } else {
         None
     }
@@ -162,5 +167,6 @@ pub(crate) fn obey<S: Source, K: Sink>(
             family: argument,
             triangle,
         } => family_at(alloc, argument, triangle, out),
+        Request::Draw => draw(alloc, src, out),
     }
 }

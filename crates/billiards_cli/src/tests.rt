@@ -1,8 +1,10 @@
 // What no clause says: the texts and statuses of rows from outside, a file a command.
 mod at;
 mod check;
+mod corner_file;
 mod cover;
 mod demo;
+mod draw;
 mod family;
 mod fixtures;
 mod job;

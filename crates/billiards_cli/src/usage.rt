@@ -10,4 +10,5 @@ pub(crate) const USAGE: &str = "usage: mcb word | check | cover
        mcb merge
        mcb path WORD P Q D [svg]
        mcb family A B C [P Q D]
+       mcb draw
 ";

@@ -10,7 +10,7 @@ use Rattle.directed_fixed.specs.Ends.{Ends}
 use Rattle.defining_functions.specs.Heights.{upper_height, lower_height}
 use Rattle.defining_functions.specs.Tables.{IsTable}
 use Rattle.defining_functions.proofs.Limits.{upper_height_limits, lower_height_limits}
-use Rattle.defining_functions.proofs.Tables.{IsTable-nil, IsTable-snoc}
+use Rattle.defining_functions.proofs.Tables.{IsTable-snoc}
 use Rattle.gradient_bounds.specs.declared.sine_low.SineLow.{SineLow}
 use Rattle.gradient_bounds.specs.Table.{number_in, bounds_in}
 use Rattle.bounce_path.specs.declared.crossing.Crossing.{Crossing}
@@ -49,10 +49,6 @@ crossing_from w k edge (Some p) table u l word place is (v, shift) u_is l_is u_h
 -- the first crossings of a word at the point of a table
 abbrev pub AreFirst : List ℕ → Option (Written × Written) → ℕ → List Crossing → Type 0
 AreFirst w point n cs = IfSome point (λ p. IsTable (λ i c. IsCrossing w (value p.0) (value p.1) (i + 1) c) n cs)
-
-pub no_crossings : (w : List ℕ) (point : Option (Written × Written)) → AreFirst w point 0 []
-no_crossings w None = tt
-no_crossings w (Some p) = IsTable-nil (λ i c. IsCrossing w (value p.0) (value p.1) (i + 1) c)
 
 pub one_crossing_more : (w : List ℕ) (point : Option (Written × Written)) (n : ℕ) (cs : List Crossing) (c : Crossing) → AreFirst w point n cs
     → IfSome point (λ p. IsCrossing w (value p.0) (value p.1) (n + 1) c) → AreFirst w point (n + 1) (cs ++ c ∷ [])

@@ -18,7 +18,7 @@ use Rattle.covering_file.proofs.Covers.{narrower, sound_is_covered}
 use Rattle.covering_file.proofs.Trees.{tree_to_list}
 use Rattle.cover_merge.specs.Laws.{IsSoundButOpen}
 use Rattle.cover_merge.specs.Merge.{IsMerge}
-use Rattle.cover_merge.specs.MergeLaws.{MergeIsOpenWhereBothAre, MergeIsSmall, ClosedMergeCovers, ClosedMergeIsSure}
+use Rattle.cover_merge.specs.MergeLaws.{MergeIsOpenWhereBothAre, MergeIsSmall, ClosedMergeIsSound, ClosedMergeCovers, ClosedMergeIsSure}
 use Rattle.cover_merge.specs.Overlay.{overlay}
 use Rattle.cover_merge.specs.Parts.{size}
 use Rattle.cover_merge.specs.Rounds.{AreAlike, AreTrueOrOpen}
@@ -97,12 +97,14 @@ pub true_in_tree : (h : Heading) (nodes : List Node) (t : Tree) → preorder t �
 true_in_tree h nodes t is true box n stands =
     true box n (subst (λ (ns : List Node). StandsIn (unit_square ∷ []) ns box n) is (tree_to_list t box n stands))
 
-pub closed_merge_covers_lem : ClosedMergeCovers
-closed_merge_covers_lem f g r fit m heading none =
-    sound_is_covered r.heading m.tree heading
-    (closed_is_sound_lem slacks.sound r.heading m.tree
+pub closed_merge_is_sound_lem : ClosedMergeIsSound
+closed_merge_is_sound_lem f g r fit m none =
+    closed_is_sound_lem slacks.sound r.heading m.tree
     (merge_sound slacks.sound f g r m narrower fit.alike (true_in_tree f.heading f.nodes m.first m.first_nodes fit.first)
-    (true_in_tree g.heading g.nodes m.second m.second_nodes fit.second)) (closed f g r m none))
+    (true_in_tree g.heading g.nodes m.second m.second_nodes fit.second)) (closed f g r m none)
+
+pub closed_merge_covers_lem : ClosedMergeCovers
+closed_merge_covers_lem f g r fit m heading none = sound_is_covered r.heading m.tree heading (closed_merge_is_sound_lem f g r fit m none)
 
 pub closed_merge_is_sure_lem : ClosedMergeIsSure
 closed_merge_is_sure_lem f g r m alike first second none =

@@ -16,33 +16,7 @@ use Rattle.cover_merge.specs.Union.{Lists, IsUnion, IsNumberOf}
 abbrev pub NoneBefore : List (List ℕ) → List ℕ → ℕ → Type 0
 NoneBefore words w k = (j : ℕ) (d : List ℕ) → j < k → get_or words j d ≢ w
 
-pub one_behind : (words : List (List ℕ)) (w x : List ℕ) (k : ℕ) → k < length words → x ≡ get_or words k x → x ≢ w → NoneBefore words w k
-    → NoneBefore words w (k + 1)
-one_behind words w x k within at other none j d less same =
-    elim (cases_lt j k) [
-      | inl earlier ↦ none j d earlier same
-      | inr later ↦
-          let here : j ≡ k = omega (arith, less, later) in
-          other (at ∙ get_or_default words k x d within ∙ ap (λ i. get_or words i d) (sym here) ∙ same)
-    ]
-
-pub number_found : (words : List (List ℕ)) (w x : List ℕ) (k : ℕ) → k < length words → x ≡ get_or words k x → x ≡ w → NoneBefore words w k
-    → IsNumberOf words w (k + 1)
-number_found words w x k within at is none =
-    let place : k + 1 - 1 ≡ k = omega arith in
-    record {
-      listed = (omega arith, omega (arith, within));
-      word = ap (λ i. get_or words i []) place ∙ sym (at ∙ get_or_default words k x [] within) ∙ is;
-      earlier = λ j listed less. none (j - 1) [] (omega (arith, listed.0, less));
-    }
-
-pub none_listed : (words : List (List ℕ)) (w : List ℕ) (k : ℕ) → length words ≤ k → NoneBefore words w k → ¬ (Lists words w)
-none_listed words w k past none lists = none (lists.0 - 1) [] (omega (arith, lists.1.0, lists.1.1, past)) lists.2
-
 -- ---- a union
-
-pub union_of_none : (words : List (List ℕ)) → IsUnion words [] words
-union_of_none words = refl
 
 pub union_with_old : (words xs union : List (List ℕ)) (w : List ℕ) → IsUnion words xs union → Lists union w → IsUnion words (xs ++ w ∷ []) union
 union_with_old words [] union w is lists = inl (subst (λ (ws : List (List ℕ)). Lists ws w) is lists, is)

@@ -8,10 +8,12 @@ use Rattle.covering_file.specs.declared.node.Node.TheVariants.{Shown}
 use Rattle.covering_file.specs.Tree.{Tree, leaf, split}
 use Rattle.covering_claims.specs.Claims.{NoneIsClear, IsFirstClear}
 
+-- a leaf that is shown from its centre
 abbrev pub IsShownLeaf : Tree → Type 0
 IsShownLeaf (leaf (Shown i) is) = ⊤
 IsShownLeaf t = ⊥
 
+-- all four are
 abbrev pub AreShown : Tree → Tree → Tree → Tree → Type 0
 AreShown a b c d = IsShownLeaf a × IsShownLeaf b × IsShownLeaf c × IsShownLeaf d
 

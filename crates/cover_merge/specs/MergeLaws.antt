@@ -6,7 +6,7 @@ use Rattle.covering_file.specs.declared.node.Node.TheVariants.{Uncovered}
 use Rattle.covering_file.specs.Covering.{IsCovered}
 use Rattle.covering_file.specs.Header.{IsHeading}
 use Rattle.covering_file.specs.Node.{is_uncovered}
-use Rattle.covering_file.specs.Sound.{IsSure}
+use Rattle.covering_file.specs.Sound.{IsSound, IsSure}
 use Rattle.covering_file.specs.Tree.{StandsAt}
 use Rattle.covering_file.specs.TreeFile.{TreeFile}
 use Rattle.cover_merge.specs.Laws.{LiesInUncovered, IsSoundButOpen}
@@ -21,6 +21,10 @@ MergeIsOpenWhereBothAre = (f g r : TreeFile) (m : IsMerge f g r) (box : Square) 
 -- a merge has at most as many nodes as both files
 abbrev pub MergeIsSmall : Type 0
 MergeIsSmall = (f g r : TreeFile) → IsMerge f g r → length r.nodes ≤ length f.nodes + length g.nodes
+
+-- where no box of a merge of files that no round refuses is left uncovered, its tree is sound
+abbrev pub ClosedMergeIsSound : Type 0
+ClosedMergeIsSound = (f g r : TreeFile) → AreFit f g → (m : IsMerge f g r) → count_by is_uncovered r.nodes ≡ 0 → IsSound r.heading m.tree
 
 -- a merge of files that no round refuses covers its region where no box is left uncovered
 abbrev pub ClosedMergeCovers : Type 0

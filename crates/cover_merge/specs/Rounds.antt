@@ -33,6 +33,7 @@ lines_before_nodes h = length (header_lines Cover h)
 abbrev pub lines_of_region : Heading → List (List ℕ)
 lines_of_region h = first_line Cover h.version ∷ region_lines h.version h.region
 
+-- one version and one region
 pub record AreAlike (g h : Heading) : Type 0 where
   pub version : g.version ≡ h.version
   pub region : g.region ≡ h.region
@@ -78,6 +79,7 @@ RefusesWords f g line =
 abbrev pub IsTrueOrOpen : Heading → Square → Node → Type 0
 IsTrueOrOpen h box node = IsSoundNode h slacks.sound box node ⊎ (node ≡ Uncovered)
 
+-- so it is at the box of each of these nodes
 abbrev pub AreTrueOrOpen : Heading → List Node → Type 0
 AreTrueOrOpen h nodes = (box : Square) (node : Node) → StandsIn (unit_square ∷ []) nodes box node → IsTrueOrOpen h box node
 

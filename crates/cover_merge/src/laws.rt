@@ -4,7 +4,8 @@ ghost use Rattle.cover_merge.specs.Laws.{OverlayIsSmall, FoldIsSmall, OverlayIsN
 ghost use Rattle.cover_merge.specs.Laws.{OverlayKeepsSound, FoldKeepsSound, ClosedIsSound};
 ghost use Rattle.cover_merge.specs.UnionLaws.{UnionKeepsFirst, UnionHasOthers, UnionHasNoMore};
 ghost use Rattle.cover_merge.specs.UnionLaws.{RenumberedHasNodes, RenumberedIsOpenWhereTreeIs, RenumberedKeepsSound};
-ghost use Rattle.cover_merge.specs.MergeLaws.{MergeIsOpenWhereBothAre, MergeIsSmall, ClosedMergeCovers, ClosedMergeIsSure};
+ghost use Rattle.cover_merge.specs.MergeLaws.{MergeIsOpenWhereBothAre, MergeIsSmall};
+ghost use Rattle.cover_merge.specs.MergeLaws.{ClosedMergeIsSound, ClosedMergeCovers, ClosedMergeIsSure};
 
 /// What stands in an overlay stands in one of the trees.
 pub fn overlay_is_of_both()
@@ -66,9 +67,10 @@ pub fn merge_is_of_both()
     ensures small { MergeIsSmall }
 {}
 
-/// A merge of files that no round refuses covers its region where no box is left uncovered, and is sure where both files are but
-/// for uncovered boxes.
+/// Where no box is left uncovered, a merge of files that no round refuses is sound and covers its region, and is sure where both
+/// files are but for uncovered boxes.
 pub fn closed_merge()
+    ensures sound { ClosedMergeIsSound }
     ensures covers { ClosedMergeCovers }
     ensures sure { ClosedMergeIsSure }
 {}

@@ -1,5 +1,5 @@
 use crate::{MergeFault, fold, merge, overlay};
-use covering_claims::WordTests;
+use covering_claims::prepare_words;
 use covering_file::Node;
 use covering_file::Node::{Outside, Shown, Split};
 use edge_words::Word;
@@ -52,8 +52,7 @@ fn lays_trees_over_each_other(rt: HostRuntime) -> Result<(), Fail> {
 fn folds_four_shown_leaves(rt: HostRuntime) -> Result<(), Fail> {
     let alloc = rt.alloc();
     let word = Word::read(alloc, b"123123")?;
-    let mut tests = Vec::new(alloc);
-    tests.push(WordTests::<Coarse>::new(alloc, &word)?)?;
+    let mut tests = prepare_words::<Coarse>(alloc, &[word])?;
     assert!(rt; tests.len() == 1);
     let tree = [
         Split,
@@ -88,8 +87,7 @@ fn folds_four_shown_leaves(rt: HostRuntime) -> Result<(), Fail> {
 fn keeps_four_shown_leaves(rt: HostRuntime) -> Result<(), Fail> {
     let alloc = rt.alloc();
     let word = Word::read(alloc, b"123123")?;
-    let mut tests = Vec::new(alloc);
-    tests.push(WordTests::<Coarse>::new(alloc, &word)?)?;
+    let mut tests = prepare_words::<Coarse>(alloc, &[word])?;
     assert!(rt; tests.len() == 1);
     let tree = [Split, Shown(1), Shown(1), Shown(1), Shown(1)];
     let folded = fold(alloc, &tree, &mut tests)?;
@@ -124,5 +122,23 @@ fn merges_within_a_limit(rt: HostRuntime) -> Result<(), Fail> {
     let merged = merge(alloc, 13, &mut src)?;
     assert_eq!(rt; merged.nodes().len(), 13);
     assert_eq!(rt; merged.uncovered(), 4);
+    Ok(())
+}
+
+// A covering of 29 nodes.
+const WHOLE: &str =
+    "mcbcover 1\ngrid 384\npolygon 3\n127 127\n128 127\n127 128\nwords 1\n123123\ndepth 7\n\
+    s\ns\no\no\no\ns\ns\no\no\no\ns\ns\no\no\no\ns\nw 1\no\no\no\no\no\no\no\no\no\no\no\no\nend complete\n";
+
+// The limit is that of the merge, and not of both files.
+#[test]
+fn merges_as_many_nodes_as_the_limit(rt: HostRuntime) -> Result<(), Fail> {
+    let alloc = rt.alloc();
+    let mut text = String::from_str(alloc, WHOLE)?;
+    text.push_str(WHOLE)?;
+    let mut src = MemSource::new(text.as_bytes().to_vec(alloc)?, 4096, Vec::new(alloc));
+    let merged = merge(alloc, 29, &mut src)?;
+    assert_eq!(rt; merged.nodes().len(), 29);
+    assert_eq!(rt; merged.uncovered(), 0);
     Ok(())
 }

@@ -2,3 +2,4 @@ mod Shut
 mod Reached
 mod Lines
 pub mod Sure
+pub mod Between

@@ -4,6 +4,8 @@ use gradient_bounds::{PrepareFault, Prepared};
 use pi_bounds::Fine;
 use rat_core::Frac;
 use rational_polygon::GridBox;
+use sine_fixed::SineTable;
+use std::rc::Rc;
 use std::test::Fail;
 
 // Boxes (i, j) of a level, whether 123123 is clear on each, and whether it is shut there, as a program with
@@ -109,7 +111,8 @@ fn tests_boxes_for_1212312123(rt: HostRuntime) -> Result<(), Fail> {
 #[test]
 fn tests_corners_of_123123(rt: HostRuntime) -> Result<(), Fail> {
     let word = Word::read(rt.alloc(), b"123123")?;
-    let mut tests = WordTests::<Fine>::new(rt.alloc(), &word)?;
+    let sines = Rc::new(rt.alloc(), SineTable::new(rt.alloc())?)?;
+    let mut tests = WordTests::<Fine>::new(rt.alloc(), &word, sines)?;
     let place = GridBox {
         i: 510,
         j: 256,

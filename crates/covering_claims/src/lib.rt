@@ -11,7 +11,7 @@ mod word_tests;
 
 pub use claims::{may_stand, pass_node, reason_of};
 pub use shown::{first_shown, is_corner_shown, is_shown, is_shut};
-pub use testing::prepare;
+pub use testing::{prepare, prepare_words};
 pub use word_tests::WordTests;
 
 #[cfg(test)]

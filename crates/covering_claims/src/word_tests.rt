@@ -13,8 +13,10 @@ use directed_fixed::Scale;
 use edge_words::Word;
 use gradient_bounds::{PrepareFault, Prepared};
 use rational_polygon::GridBox;
+use sine_fixed::SineTable;
 use std::alloc::Global;
 use std::marker::Model;
+use std::rc::Rc;
 
 /// The tests of a listed word on boxes, at the scale `S`. They are seen as their word.
 ///
@@ -33,13 +35,17 @@ impl<S: Scale> Model for WordTests<S> {
 }
 
 impl<S: Scale> WordTests<S> {
-    /// Makes the tests of a word. One that is not stable is refused before memory is taken.
-    pub fn new(alloc: Global, word: &Word) -> Result<WordTests<S>, PrepareFault>
+    /// Makes the tests of a word, whose sines come from these tables. A word that is not stable is refused before memory is taken.
+    pub fn new(
+        alloc: Global,
+        word: &Word,
+        sines: Rc<SineTable>,
+    ) -> Result<WordTests<S>, PrepareFault>
         ensures word { IfOk result (λ tests. tests ≡ word.now) }
         ensures unstable { IsErrOf result Unstable ↔ ¬ (IsStable word.now) }
     {
         let mut prepared = Prepared::new(alloc, word)?;
-        prepared.keep_sizes(alloc)?;
+        prepared.keep_sizes_beside(alloc, sines)?;
         Ok(WordTests { prepared })
     }
 

@@ -73,7 +73,7 @@ nodes_never claims Sure limit h x never few =
     turns_never node_due (node_part claims limit h) (IsSureAfter Sure h) x (λ l. node_is_one claims limit h l few)
     (λ l y. node_never claims Sure limit h l y never few)
 
-tree_one : (claims : Claims) (limit : ℕ) (h : Heading) → EndsInForm claims limit h → length h.words ≤ 32 → ValueIsOne (tree_part claims limit h)
+pub tree_one : (claims : Claims) (limit : ℕ) (h : Heading) → EndsInForm claims limit h → length h.words ≤ 32 → ValueIsOne (tree_part claims limit h)
 tree_one claims limit h ends few =
     seen_is_one (followed_by (nodes_part claims limit h) end_after) (nodes_part claims limit h).Says tree_lines
     (λ (ns : List Node). let p : List Node × Unit {0} = (ns, tt) in p)

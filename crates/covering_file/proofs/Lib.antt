@@ -29,4 +29,6 @@ pub mod TreeParts
 pub mod TreeFiles
 pub mod EndLines
 pub mod Upgraded
+pub mod Between
+pub mod OneOffence
 mod Stack

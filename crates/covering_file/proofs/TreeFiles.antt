@@ -82,7 +82,7 @@ tree_file_taken limit h nodes old new a b takes =
 -- ---- no line of one offends
 
 -- a node at a level for it is refused for none
-level_never : NeverHas level_claims HasLevelFor
+pub level_never : NeverHas level_claims HasLevelFor
 level_never h box n r stands has = has.1 stands
 
 level_ends : (limit : ℕ) → limit < 2 ^ 32 → (h : Heading) → EndsInForm level_claims limit h

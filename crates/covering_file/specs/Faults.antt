@@ -1,4 +1,4 @@
--- Why a header could not be made, and why a file could not be read.
+-- The listed words by their numbers; why a header could not be made, and why a file could not be read.
 use Rattle.std.specs.Prelude.{ℕ, ◌-◌, ◌<◌, ◌≤◌, Bool, true, false, List, [], length, slice_index_or, ⊤, Some, None}
 use Rattle.std.specs.declared.option.Option.{Option}
 use Rattle.edge_words.specs.Stable.{IsStable}
@@ -18,6 +18,7 @@ use Rattle.line_grammar.specs.Text.{BeginsWith}
 abbrev pub word_at : List (List ℕ) → ℕ → List ℕ
 word_at words i = slice_index_or words (i - 1) []
 
+-- i is the number of a listed word
 abbrev pub IsListed : List (List ℕ) → ℕ → Type 0
 IsListed words i = (1 ≤ i) × (i ≤ length words)
 

@@ -65,6 +65,7 @@ pub record IsNodeAfter (claims : Claims) (limit : ℕ) (h : Heading) (nodes : Li
   pub within : length nodes < limit
   pub stands : claims.MayStand h (first_box (due_boxes nodes)) n
 
+-- one node after these
 abbrev pub node_part : Claims → ℕ → Heading → List Node → Part Node
 node_part claims limit h nodes = record {
   grammar = one_line (NodeHas claims limit h nodes) (NodeLacks claims limit h nodes);
@@ -105,5 +106,6 @@ file_part claims limit = followed_by (header_part Cover) (tree_part claims limit
 abbrev pub whole_file : Claims → ℕ → Part (Heading × List Node)
 whole_file claims limit = followed_by (header_part Cover) (λ h. whole_text (tree_part claims limit h))
 
+-- which line of a file is due, and which reasons it can have
 abbrev pub file_grammar : Claims → ℕ → Grammar
 file_grammar claims limit = (whole_file claims limit).grammar

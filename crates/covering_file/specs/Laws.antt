@@ -1,22 +1,27 @@
 -- What follows from the definitions alone.
-use Rattle.std.specs.Prelude.{◌≡◌, ◌⊎◌, ℕ, ◌^◌, ◌<◌, ◌↔◌, List, [], ◌∷◌, ◌++◌, All, length}
+use Rattle.std.specs.Prelude.{◌≡◌, ◌⊎◌, ℕ, ◌+◌, ◌^◌, ◌<◌, min, ◌↔◌, List, [], ◌∷◌, ◌++◌, All, map, length, Some}
 use Rattle.rational_polygon.specs.Point.{Point}
 use Rattle.rational_polygon.specs.Square.{Square, unit_square, IsInBox}
 use Rattle.rational_polygon.specs.Region.{IsInRegion}
+use Rattle.gradient_bounds.specs.Clear.{IsClear}
+use Rattle.gradient_bounds.specs.CornerClear.{IsCornerClear}
 use Rattle.gradient_bounds.specs.Corridor.{HasCorridor}
 use Rattle.gradient_bounds.specs.Slacks.{Slacks}
+use Rattle.gradient_bounds.specs.Slacks as slacks
 use Rattle.covering_file.specs.declared.file_kind.FileKind.{FileKind}
+use Rattle.covering_file.specs.declared.file_kind.FileKind.TheVariants.{Cover}
 use Rattle.covering_file.specs.declared.node.Node.{Node}
 use Rattle.covering_file.specs.declared.node.Node.TheVariants.{Shown, Corner}
 use Rattle.line_grammar.specs.declared.reason.Reason.{Reason}
+use Rattle.line_grammar.specs.Laws.{OffenceIsOne}
 use Rattle.line_grammar.specs.Offence.{IsFirstOffence}
 use Rattle.line_grammar.specs.Text.{text_of}
-use Rattle.covering_file.specs.Header.{Heading, IsHeading, header_text, job_text, IsVersion}
+use Rattle.covering_file.specs.Header.{Heading, IsHeading, header_lines, header_text, job_text, IsVersion}
 use Rattle.covering_file.specs.Faults.{word_at, IsListed}
-use Rattle.covering_file.specs.Node.{IsNode}
+use Rattle.covering_file.specs.Node.{IsNode, node_line}
 use Rattle.covering_file.specs.HeaderPart.{header_part, job_part}
 use Rattle.covering_file.specs.Tree.{Tree, preorder, StandsAt, file_text}
-use Rattle.covering_file.specs.DueBoxes.{AreWhole, StandsIn}
+use Rattle.covering_file.specs.DueBoxes.{AreWhole, StandsIn, due_boxes, first_of}
 use Rattle.covering_file.specs.Sound.{IsSound, IsSure}
 use Rattle.covering_file.specs.Covering.{IsCovered, IsCovering}
 use Rattle.covering_file.specs.CheckClaims.{check_claims}
@@ -103,12 +108,47 @@ PassedIsAccepted = (limit : ℕ) (h : Heading) (nodes : List Node) → IsHeading
 abbrev pub SureIsNotRefused : Type 0
 SureIsNotRefused = (limit : ℕ) (bytes : List ℕ) (line : ℕ) (reason : Reason) → IsSureFile limit bytes → ¬ (IsRefused limit line reason bytes)
 
+-- The node may stand at the box with the narrower slacks, and not with the wider ones: a listed word, shown on the box or at its corners.
+abbrev pub IsNodeBetween : Heading → Square → Node → Type 0
+IsNodeBetween h box (Shown i) =
+    IsListed h.words i × IsClear (word_at h.words i) box slacks.sound.gradient × ¬ (IsClear (word_at h.words i) box slacks.sure.gradient)
+IsNodeBetween h box (Corner i) =
+    IsListed h.words i × IsCornerClear (word_at h.words i) box slacks.sound.corner × ¬ (IsCornerClear (word_at h.words i) box slacks.sure.corner)
+IsNodeBetween h box node = ⊥
+
+-- This line of a file, counted from 1, is that of such a node, at the box that is due after the nodes before it.
+pub record HasNodeBetween (bytes : List ℕ) (line : ℕ) : Type 0 where
+  pub heading : Heading
+  pub before : List Node
+  pub node : Node
+  pub box : Square
+  pub rest : List ℕ
+  pub is_heading : IsHeading heading
+  pub text : bytes ≡ text_of (header_lines Cover heading ++ (map node_line before ++ node_line node ∷ [])) ++ rest
+  pub number : line ≡ length (header_lines Cover heading) + (length before + 1)
+  pub due : first_of (due_boxes before) ≡ Some box
+  pub between : IsNodeBetween heading box node
+
+-- two refusals of one file are one, or else the lesser of their lines is such a line
+abbrev pub RefusalsDifferBetween : Type 0
+RefusalsDifferBetween = (limit line other : ℕ) (reason reason' : Reason) (bytes : List ℕ) → IsRefused limit line reason bytes
+    → IsRefused limit other reason' bytes → ((line ≡ other) × (reason ≡ reason')) ⊎ HasNodeBetween bytes (min line other)
+
+-- a file that is accepted is refused only at such a line
+abbrev pub AcceptedIsRefusedBetween : Type 0
+AcceptedIsRefusedBetween = (limit nodes words line : ℕ) (reason : Reason) (bytes : List ℕ) → IsAccepted limit nodes words bytes
+    → IsRefused limit line reason bytes → HasNodeBetween bytes line
+
 -- ---- files that are read without being judged
 
 -- no line of a file with a tree within the limit offends where no box is judged, up to a limit of 2^32
 abbrev pub TreeFileNeverOffends : Type 0
 TreeFileNeverOffends = (limit : ℕ) (f : TreeFile) (line : ℕ) (reason : Reason) → limit < 2 ^ 32 → IsTreeFile limit f
     → ¬ (IsFirstOffence (whole_tree_file limit).grammar (tree_file_text f) line reason)
+
+-- and another text offends first at one line, and there by one least reason
+abbrev pub TreeFileOffenceIsOne : Type 0
+TreeFileOffenceIsOne = (limit : ℕ) → limit < 2 ^ 32 → OffenceIsOne (whole_tree_file limit).grammar
 
 -- the tree of a file that is upgraded is sound exactly where it was before
 abbrev pub UpgradedIsSound : Type 0

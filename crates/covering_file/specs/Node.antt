@@ -10,10 +10,12 @@ abbrev pub IsLeaf : Node → Type 0
 IsLeaf Split = ⊥
 IsLeaf leaf = ⊤
 
+-- whether it is an uncovered leaf
 abbrev pub is_uncovered : Node → Bool
 is_uncovered Uncovered = true
 is_uncovered node = false
 
+-- the line of a node; i is the number of a listed word
 abbrev pub node_line : Node → List ℕ
 node_line Split = codes "s"
 node_line Outside = codes "o"
@@ -27,6 +29,7 @@ IsNode words version (Shown i) = (1 ≤ i) × (i ≤ words)
 IsNode words version (Corner i) = (version ≡ 3) × (1 ≤ i) × (i ≤ words)
 IsNode words version node = ⊤
 
+-- the line has the form of a node's, be its number in range or not
 abbrev pub NodeHasForm : ℕ → List ℕ → Type 0
 NodeHasForm version line =
     (line ≡ codes "s") ⊎ (line ≡ codes "o") ⊎ (line ≡ codes "u") ⊎ IsNamed (codes "w") line ⊎ ((version ≡ 3) × IsNamed (codes "q") line)

@@ -39,5 +39,6 @@ tree_text (split a b c d) = with_newline (node_line Split) ++ tree_text a ++ tre
 abbrev pub uncovered_in : Tree → ℕ
 uncovered_in t = count_by is_uncovered (preorder t)
 
+-- a header, the tree, and the end line with the number of uncovered leaves
 abbrev pub file_text : Heading → Tree → List ℕ
 file_text h t = header_text Cover h ++ tree_text t ++ with_newline (end_line (uncovered_in t))

@@ -46,6 +46,7 @@ abbrev pub level_reason : Node → Reason
 level_reason (Corner i) = TooShallow
 level_reason node = SplitTooDeep
 
+-- the box has no level for the node, and this is the reason
 abbrev pub RefusesLevel : Heading → Square → Node → Reason → Type 0
 RefusesLevel h box node r = (r ≡ level_reason node) × ¬ (HasLevelFor h box node)
 

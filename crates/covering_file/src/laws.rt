@@ -4,8 +4,8 @@ ghost use Rattle.line_grammar.specs.Laws.{OffenceIsOne};
 ghost use Rattle.covering_file.specs.HeaderPart.{header_part, job_part};
 ghost use Rattle.covering_file.specs.Laws.{HeaderIsOne, NoHeaderPrefix, HeaderNeverOffends, JobNeverOffends, WholeIsTree, TreeIsOne, StandingIsDue};
 ghost use Rattle.covering_file.specs.Laws.{SoundCovers, SoundIsCovered, CoveredEverywhere, SureIsSound, FileTextIsLines, FileIsOne, PassedIsAccepted};
-ghost use Rattle.covering_file.specs.Laws.{AcceptedIsCovering, AcceptedIsOne, SureIsNotRefused};
-ghost use Rattle.covering_file.specs.Laws.{TreeFileNeverOffends, UpgradedIsSound, UpgradedIsSure};
+ghost use Rattle.covering_file.specs.Laws.{AcceptedIsCovering, AcceptedIsOne, SureIsNotRefused, RefusalsDifferBetween, AcceptedIsRefusedBetween};
+ghost use Rattle.covering_file.specs.Laws.{TreeFileNeverOffends, TreeFileOffenceIsOne, UpgradedIsSound, UpgradedIsSure};
 
 /// Bytes that begin with the texts of two headers begin with one.
 pub fn header_is_one()
@@ -98,9 +98,21 @@ pub fn sure_is_not_refused()
     ensures { SureIsNotRefused }
 {}
 
+/// Two refusals of one file name one line and one reason, or else the lesser of their lines is that of a word that is clear on its box, or at
+/// its corners, with the narrower slack, and not with the wider one. An accepted file is refused only at such a line.
+pub fn verdicts_differ_between()
+    ensures refused { RefusalsDifferBetween }
+    ensures accepted { AcceptedIsRefusedBetween }
+{}
+
 /// No line of a covering file offends where it is read without being judged.
 pub fn tree_file_never_offends()
     ensures { TreeFileNeverOffends }
+{}
+
+/// Bytes that are read without being judged offend first at one line, and there by one least reason.
+pub fn tree_file_offence_is_one()
+    ensures { TreeFileOffenceIsOne }
 {}
 
 /// The tree of a file that is upgraded is sound exactly where it was before.

@@ -24,25 +24,12 @@ use Rattle.defining_functions.proofs.Sizes.{at_most_both, difference_small, size
 use Rattle.defining_functions.proofs.Limits.{upper_height_limits, lower_height_limits}
 use Rattle.defining_functions.proofs.Differences.{function_difference}
 
--- a height, from what it is made of
-pub height_is : (w : List ℕ) (v t p q o : FormalPoint) → t ≡ conj v → p ≡ q → o ≡ lower_corner w 1 → sine_form (t *ₚ (p -ₚ o)) ≡ height v w q
-unfolding height
-height_is w v t p q o is_t is_p is_o = λ i. sine_form (is_t i *ₚ (is_p i -ₚ is_o i))
-
 -- the place before k, and one more
 pub place_of_index : (k : ℕ) → 1 ≤ k → k - 1 + 1 ≡ k
 place_of_index k h = omega (arith, h)
 
 -- ---- what is added to a side
 module _ (w : List ℕ) (i : ℕ) where
-  pub upper_wanted : (t p o f : FormalPoint) → ((v : FormalPoint) → IsShift w v → t ≡ conj v) → p ≡ upper_corner w (i + 1) → o ≡ lower_corner w 1 →
-      f ≡ sine_form (t *ₚ (p -ₚ o)) → IsUpperHeight w i f
-  upper_wanted t p o f is_t is_p is_o is_f v shift = is_f ∙ height_is w v t p (upper_corner w (i + 1)) o (is_t v shift) is_p is_o
-
-  pub lower_wanted : (t p o f : FormalPoint) → ((v : FormalPoint) → IsShift w v → t ≡ conj v) → p ≡ lower_corner w (i + 1) → o ≡ lower_corner w 1 →
-      f ≡ sine_form (t *ₚ (p -ₚ o)) → IsLowerHeight w i f
-  lower_wanted t p o f is_t is_p is_o is_f v shift = is_f ∙ height_is w v t p (lower_corner w (i + 1)) o (is_t v shift) is_p is_o
-
   pub upper_limits : (f : FormalPoint) → IsWord w → HasShift w → IsPlace w (i + 1) → IsUpperHeight w i f → IsWithinFunctionLimits f
   upper_limits f word (v, shift) place is = subst IsWithinFunctionLimits (sym (is v shift)) (upper_height_limits w v word shift (i + 1) place)
 
@@ -132,6 +119,15 @@ module _ (w : List ℕ) (us : List FormalPoint) (ups : List ℕ) (ls : List Form
         subst (λ s. AreAtMost s row.greatest) (is.each.each j row.greatest below zero_point ∙ ap sizes_of (difference_is v shift))
         (is.greatest j row.greatest (omega (arith, is.each.count, below)))
 
+    -- and what is at most the sizes of the row is at most those of the function
+    pub row_lesser : (t : SizeTable) (row : SizeRow) → IsSizeTable us ls t → row ≡ slice_index_or t.rows.items i row → (v : FormalPoint) → IsShift w v
+        → AreAtMost row.least (sizes_of (defining_function v w k l))
+    row_lesser t row kept is_row v shift =
+        let is = row_at k i t row upper here kept is_row in
+        let below = (lower_stands l j lower there).in_range in
+        subst (λ s. AreAtMost row.least s) (is.each.each j row.least below zero_point ∙ ap sizes_of (difference_is v shift))
+        (is.least j row.least (omega (arith, is.each.count, below)))
+
   -- the place of an edge's height
   upper_here : (k i : ℕ) → IsPlace w k → slice_index_or ups (k - 1) 0 ≡ slice_index_or ups (k - 1) i
   upper_here k i place = get_or_default ups (k - 1) 0 i (omega (arith, place.0, place.1, h.each_upper.each.count))
@@ -146,6 +142,14 @@ module _ (w : List ℕ) (us : List FormalPoint) (ups : List ℕ) (ls : List Form
   row_most k i t row upper here kept is_row v l shift lower =
       let j = slice_index_or lps (l - 1) 0 in
       row_greatest k l i j upper lower here (lower_here l j lower) t row kept is_row v shift
+
+  -- the least sizes of a row are at most those of each function of it
+  pub row_least : (k i : ℕ) (t : SizeTable) (row : SizeRow) → IsPlace w k → i ≡ slice_index_or ups (k - 1) i → IsSizeTable us ls t
+      → row ≡ slice_index_or t.rows.items i row → (v : FormalPoint) (l : ℕ) → IsShift w v → IsPlace w l
+      → AreAtMost row.least (sizes_of (defining_function v w k l))
+  row_least k i t row upper here kept is_row v l shift lower =
+      let j = slice_index_or lps (l - 1) 0 in
+      row_lesser k l i j upper lower here (lower_here l j lower) t row kept is_row v shift
 
   -- and the greatest sizes of all are at least those of each function
   pub table_most : (t : SizeTable) → IsSizeTable us ls t → (v : FormalPoint) (k l : ℕ) → IsShift w v → IsPlace w k → IsPlace w l

@@ -4,5 +4,7 @@ pub mod Differences
 pub mod SideSteps
 pub mod Sizes
 pub mod Kept
+pub mod StepHeights
+pub mod SharedEnds
 pub mod AllHeights
 pub mod Steps

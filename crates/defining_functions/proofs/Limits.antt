@@ -98,12 +98,3 @@ module _ (w : List ℕ) (v : FormalPoint) (word : IsWord w) (shift : IsShift w v
 -- what a function bends for each unit of weight
 pub function_bend : (f : FormalPoint) → IsWithinFunctionLimits f → bend f ≤ 33800 * weight f
 function_bend f h = omega (arith, bend_le 130 f h.within)
-
--- ---- the product of a small point and the difference of two is within the limits of sums
-pub light_way : (t p q : FormalPoint) → IsSmall t → IsSmall p → IsSmall q → weight t * weight (p -ₚ q) ≤ greatest_weight
-light_way t p q h k l =
-    let way : weight (p -ₚ q) ≤ 256 = omega (arith, weight_difference p q, k.light, l.light) in
-    omega (arith, mul-le-mul_left (weight t) way, h.light)
-
-pub near_way : (t p q : FormalPoint) → IsSmall t → IsSmall p → IsSmall q → SumsAreNear (terms t) (terms (p -ₚ q))
-near_way t p q h k l = sums_near 65 65 t (p -ₚ q) (omega arith) h.within (IsWithin_difference 65 p q k.within l.within)

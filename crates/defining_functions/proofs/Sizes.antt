@@ -32,6 +32,17 @@ all_at_most f xs x before after all more here =
     one h zero d below = h
     one h (suc k) d below = absurd (omega (arith, below))
 
+-- the same for bounds that are at most those before
+pub all_at_least : {X : Type 0} (f : X → Sizes) (xs : List X) (x : X) (before after : Sizes) → All (λ x. AreAtMost before (f x)) xs
+    → AreAtMost after before → AreAtMost after (f x) → All (λ x. AreAtMost after (f x)) (xs ++ x ∷ [])
+all_at_least f xs x before after all more here =
+    All-append (λ x. AreAtMost after (f x)) xs (x ∷ []) (λ k d below. at_most_both after before (f (slice_index_or xs k d)) more (all k d below))
+    (one here)
+  where
+    one : AreAtMost after (f x) → All (λ x. AreAtMost after (f x)) (x ∷ [])
+    one h zero d below = h
+    one h (suc k) d below = absurd (omega (arith, below))
+
 -- the difference of two heights is small
 pub difference_small : (p q : FormalPoint) → IsWithinFunctionLimits p → IsWithinFunctionLimits q → AreSmall (sizes_of (p -ₚ q))
 difference_small p q h k =

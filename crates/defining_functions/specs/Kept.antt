@@ -44,11 +44,13 @@ IsUpperHeight w i p = (v : FormalPoint) → IsShift w v → p ≡ upper_height v
 abbrev pub IsLowerHeight : List ℕ → ℕ → FormalPoint → Type 0
 IsLowerHeight w i p = (v : FormalPoint) → IsShift w v → p ≡ lower_height v w (i + 1)
 
--- the sizes of the differences of one height and others, and sizes that are at least these
+-- the sizes of the differences of one height and others, sizes that are at least these, and sizes that are at most these
 pub record IsSizeRow (p : FormalPoint) (lowers : List FormalPoint) (row : SizeRow) : Type 0 where
   pub each : IsTable (λ j sizes. (q : FormalPoint) → sizes ≡ sizes_of (p -ₚ slice_index_or lowers j q)) (length lowers) row.sizes.items
   pub greatest : All (λ s. AreAtMost s row.greatest) row.sizes.items
   pub small : AreSmall row.greatest
+  pub least : All (λ s. AreAtMost row.least s) row.sizes.items
+  pub least_small : AreSmall row.least
 
 -- a row for each height of the upper side, and sizes that are at least those of each row
 pub record IsSizeTable (uppers lowers : List FormalPoint) (table : SizeTable) : Type 0 where

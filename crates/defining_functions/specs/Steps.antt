@@ -14,11 +14,11 @@ use Rattle.defining_functions.specs.declared.shared_end.SharedEnd.{SharedEnd}
 use Rattle.defining_functions.specs.declared.shared_end.SharedEnd.TheVariants.{Upper, Lower, Neither}
 use Rattle.defining_functions.specs.declared.step.Step.{Step}
 
--- the end that the edge i + 1 shares with the edge i
+-- the end that the edge i + 1 shares with the edge i, for every edge but the first
 abbrev pub SharesEnd : List ℕ → ℕ → SharedEnd → Type 0
 SharesEnd w i Upper = (0 < i) × (upper_corner w (i + 1) ≡ upper_corner w i)
 SharesEnd w i Lower = (0 < i) × (lower_corner w (i + 1) ≡ lower_corner w i)
-SharesEnd w i Neither = Unit {0}
+SharesEnd w i Neither = i ≡ 0
 
 -- the step of the edge i + 1: the height of its upper end is that of its lower end and the difference of two forms
 pub record IsStep (w : List ℕ) (forms : List FormalPoint) (i : ℕ) (s : Step) : Type 0 where

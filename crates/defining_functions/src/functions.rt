@@ -11,12 +11,14 @@ ghost use Rattle.defining_functions.specs.Functions.{defining_function, IsWithin
 ghost use Rattle.defining_functions.specs.Heights.{upper_height, lower_height};
 ghost use Rattle.defining_functions.specs.Sizes.{sizes_of, AreAtMost, AreSmall};
 ghost use Rattle.defining_functions.specs.AllHeights.{HaveAllHeights};
+ghost use Rattle.defining_functions.specs.Steps.{AreSteps};
 ghost use Rattle.defining_functions.specs.declared.fault.FunctionsFault.TheVariants.{NotTranslate};
 
 use crate::fault::FunctionsFault;
 use crate::first_edges::first_edges;
+use crate::height_steps::HeightSteps;
 use crate::side::Side;
-use crate::sides::{lower_side, upper_side};
+use crate::sides::sides_of;
 use crate::size_table::{SizeTable, size_table};
 use edge_words::Word;
 use exp_sums::{ExpSum, Sizes};
@@ -26,7 +28,7 @@ use unfolding::Unfolding;
 
 /// The defining functions of a word that has a shift, one for each upper and each lower corner of its unfolding.
 ///
-/// Corners are counted from 1. Only `of`, `function` and `keep_sizes` take memory.
+/// Corners are counted from 1. Only `of`, `by_steps`, `function` and `keep_sizes` take memory.
 #[derive(Drop)]
 pub struct Functions {
     word: Word,
@@ -61,10 +63,32 @@ impl Functions {
         ensures shift { IfOk result (λ functions. HasShift functions) }
         ensures not_translate { IsErrOf result NotTranslate ↔ ¬ (HasShift u.now) }
     {
-        match u.shift() {
-            Some(shift) => Ok(Functions::along(alloc, u, shift)?),
-            None => Err(FunctionsFault::NotTranslate),
-        }
+        let steps = HeightSteps::of(alloc, u)?;
+        Ok(Functions::by_steps(alloc, u, &steps)?)
+    }
+
+    /// The functions of an unfolding's word, whose heights follow from one another by these steps.
+    pub fn by_steps(
+        alloc: Global,
+        u: &Unfolding,
+        steps: &HeightSteps,
+    ) -> Result<Functions, OutOfMemory>
+        requires shift { HasShift u.now }
+        requires steps { AreSteps u.now (length u.now) steps.now.forms.items steps.now.steps.items }
+        ensures { IfOk result (λ functions. functions ≡ u.now) }
+    {
+        let word = u.word().copied();
+        let sides = sides_of(alloc, u, steps)?;
+        let upper_edges = first_edges(alloc, &sides.uppers.places)?;
+        let lower_edges = first_edges(alloc, &sides.lowers.places)?;
+        Ok(Functions {
+            word,
+            uppers: sides.uppers,
+            lowers: sides.lowers,
+            upper_edges,
+            lower_edges,
+            kept: None,
+        })
     }
 
     /// How many letters the word has.
@@ -168,8 +192,8 @@ impl Functions {
         }
     }
 
-    /// Makes the sizes of all functions and keeps them. What the calls answer stays the same, but `greatest_sizes` and
-    /// `greatest_in_row` have an answer from then on.
+    /// Makes the sizes of all functions and keeps them. What the calls answer stays the same, but `greatest_sizes`,
+    /// `greatest_in_row` and `least_in_row` have an answer from then on.
     pub fn keep_sizes(&mut self, alloc: Global) -> Result<(), OutOfMemory>
         ensures { self.new ≡ self.old }
     {
@@ -206,6 +230,21 @@ impl Functions {
         }
     }
 
+    /// The least weight, reach and bend of the functions of the k-th upper corner, where the sizes are kept.
+    pub fn least_in_row(&self, k: u32) -> Option<Sizes>
+        requires { IsPlace self.now k }
+        ensures word { IsWord self.now }
+        ensures small { IfSome result (λ least. AreSmall least) }
+        ensures least { IfSome result (λ least. (v : FormalPoint) (l : ℕ) → IsShift self.now v → IsPlace self.now l
+            → AreAtMost least (sizes_of (defining_function v self.now k l))) }
+    {
+        let upper = self.uppers.places[k as usize - 1];
+        match &self.kept {
+            Some(table) => Some(table.rows[upper].least),
+            None => None,
+        }
+    }
+
     /// One edge for each upper corner, in the order of the edges.
     pub fn upper_edges(&self) -> &[u32]
         ensures shift { HasShift self.now }
@@ -220,26 +259,5 @@ impl Functions {
         ensures heights { HaveAllHeights self.now lower_height result.now }
     {
         &self.lower_edges
-    }
-
-    /// The functions of a word with a shift.
-    fn along(alloc: Global, u: &Unfolding, shift: &ExpSum) -> Result<Functions, OutOfMemory>
-        requires { IsShift u.now shift.now }
-        ensures { IfOk result (λ functions. functions ≡ u.now) }
-    {
-        let conjugate = shift.conj(alloc)?;
-        let word = u.word().copied();
-        let uppers = upper_side(alloc, u, &conjugate)?;
-        let lowers = lower_side(alloc, u, &conjugate)?;
-        let upper_edges = first_edges(alloc, &uppers.places)?;
-        let lower_edges = first_edges(alloc, &lowers.places)?;
-        Ok(Functions {
-            word,
-            uppers,
-            lowers,
-            upper_edges,
-            lower_edges,
-            kept: None,
-        })
     }
 }

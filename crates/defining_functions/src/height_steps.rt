@@ -30,6 +30,7 @@ impl HeightSteps {
     /// The steps of an unfolding's word. Without a shift it is refused before memory is taken.
     pub fn of(alloc: Global, u: &Unfolding) -> Result<HeightSteps, FunctionsFault>
         ensures steps { IfOk result (λ s. AreSteps u.now (length u.now) s.forms.items s.steps.items) }
+        ensures shift { IfOk result (λ _. HasShift u.now) }
         ensures not_translate { IsErrOf result NotTranslate ↔ ¬ (HasShift u.now) }
     {
         match u.shift() {

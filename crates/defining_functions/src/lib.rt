@@ -12,7 +12,6 @@ mod fault;
 mod first_edges;
 mod form;
 mod functions;
-mod height;
 mod height_steps;
 pub mod laws;
 mod shared_end;

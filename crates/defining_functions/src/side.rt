@@ -1,5 +1,6 @@
 //! The heights of the corners on one side of a path.
-ghost use Rattle.std.specs.Prelude.{◌≡◌, ◌<◌, ◌-◌, [], ◌∷◌, ◌++◌, length, OnOk};
+ghost use Rattle.std.specs.Prelude.{◌≡◌, ◌<◌, ◌-◌, [], ◌∷◌, ◌++◌, length, slice_index_or, OnOk};
+ghost use Rattle.exp_sums.specs.FormalPoint.{FormalPoint};
 
 use exp_sums::ExpSum;
 use std::alloc::{AllocError as OutOfMemory, Global};
@@ -23,6 +24,14 @@ impl Side {
             heights: Vec::new(alloc),
             places: Vec::new(alloc),
         }
+    }
+
+    /// The height of the last corner.
+    pub fn last(&self) -> &ExpSum
+        requires { 0 < length self.now.heights.items }
+        ensures { (p : FormalPoint) → result.now ≡ slice_index_or self.now.heights.items (length self.now.heights.items - 1) p }
+    {
+        &self.heights[self.heights.len() - 1]
     }
 
     /// One more edge, whose corner has this height.

@@ -13,6 +13,8 @@ pub struct SizeRow {
     pub sizes: Vec<Sizes>,
     /// The greatest weight, reach and bend of the row.
     pub greatest: Sizes,
+    /// The least weight, reach and bend of the row.
+    pub least: Sizes,
 }
 
 /// The sizes of nothing, which are at most all others.
@@ -23,6 +25,17 @@ pub fn no_sizes() -> Sizes
         weight: 0,
         reach: 0,
         bend: 0,
+    }
+}
+
+/// Sizes that are at least those of each difference of two heights.
+fn largest_sizes() -> Sizes
+    ensures { AreSmall result }
+{
+    Sizes {
+        weight: 32768,
+        reach: 8_519_680,
+        bend: 1_107_558_400,
     }
 }
 
@@ -41,6 +54,20 @@ pub fn greater_sizes(first: Sizes, second: Sizes) -> Sizes
     }
 }
 
+/// The lesser weight, reach and bend of two.
+fn lesser_sizes(first: Sizes, second: Sizes) -> Sizes
+    requires { AreSmall first }
+    ensures first { AreAtMost result first }
+    ensures second { AreAtMost result second }
+    ensures small { AreSmall result }
+{
+    Sizes {
+        weight: first.weight.min(second.weight),
+        reach: first.reach.min(second.reach),
+        bend: first.bend.min(second.bend),
+    }
+}
+
 /// The sizes of a height less each of others.
 pub fn size_row(alloc: Global, upper: &ExpSum, lowers: &[ExpSum]) -> Result<SizeRow, OutOfMemory>
     requires upper { IsWithinFunctionLimits upper.now }
@@ -49,10 +76,16 @@ pub fn size_row(alloc: Global, upper: &ExpSum, lowers: &[ExpSum]) -> Result<Size
 {
     let mut sizes = Vec::new(alloc);
     let mut greatest = no_sizes();
+    let mut least = largest_sizes();
     for lower in lowers {
         let next = upper.sizes_of_difference(lower);
         greatest = greater_sizes(greatest, next);
+        least = lesser_sizes(least, next);
         sizes.push(next)?;
     }
-    Ok(SizeRow { sizes, greatest })
+    Ok(SizeRow {
+        sizes,
+        greatest,
+        least,
+    })
 }

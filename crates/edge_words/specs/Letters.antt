@@ -1,5 +1,6 @@
 -- Letters, and the places at which they stand in a closed list.
--- A path in a triangle crosses the edges 1, 2 and 3, and a periodic one crosses the same ones again and again, so that the first crossing comes after the last.
+-- A billiard path hits the edges 1, 2 and 3; unfolded, it crosses them. A periodic one crosses the same ones again and again, so that the first
+-- crossing comes after the last.
 
 use Rattle.std.specs.Prelude.{ℕ, ◌-◌, ◌%◌, ◌≤◌, List, length, slice_index}
 

@@ -1,7 +1,8 @@
 -- Stable words.
 -- A periodic path is stable where each triangle near by has a periodic path with the same word. The word alone decides this: each edge has to be
 -- crossed as often at odd as at even places.
--- Source: Richard Evan Schwartz, Obtuse Triangular Billiards I: Near the (2, 3, 6) Triangle, Experimental Mathematics 15 (2006).
+-- Source: Galperin, Stepin and Vorobets, Periodic billiard trajectories in polygons: generating mechanisms, Russian Mathematical Surveys 47 (1992),
+-- as in Richard Evan Schwartz, Obtuse Triangular Billiards I: Near the (2, 3, 6) Triangle, Experimental Mathematics 15 (2006).
 
 use Rattle.std.specs.Prelude.{◌≡◌, ◌==◌, ℕ, List, [], ◌∷◌, count_by}
 use Rattle.edge_words.specs.Letters.{IsLetter}

@@ -13,5 +13,6 @@ dir_bend d = unsigned_abs d.m * unsigned_abs d.m + unsigned_abs d.n * unsigned_a
 abbrev pub terms_bend : List Term → ℕ
 terms_bend ts = sum_by (λ t. unsigned_abs t.c * dir_bend t.dir) ts
 
+-- that of a formal point
 abbrev pub bend : FormalPoint → ℕ
 bend p = terms_bend (terms p)

@@ -20,6 +20,7 @@ pub record FormalPoint : Type 0 where
   list : List Term
   canonical : T (is_canonical list)
 
+-- its terms
 pub terms : FormalPoint → List Term
 terms p = p.list
 
@@ -34,6 +35,7 @@ same_terms p q e =
     let pairs : ◌≡◌ {A = (ts : List Term) × T (is_canonical ts)} (p.list, p.canonical) (q.list, q.canonical) = Σ_prop_path (λ ts. T_prop _) e in
     λ i. record { list = (pairs i).0; canonical = (pairs i).1 }
 
+-- how a contract keeps one: as the list of its terms
 abbrev pub formal_point_code : Coded FormalPoint
 formal_point_code = coded_via (coded_list (term_row.the_row).coded) terms same_terms
 
@@ -49,16 +51,19 @@ pub terms-point_of : (ts : List Term) → terms (point_of ts) ≡ normal ts
 unfolding terms point_of
 terms-point_of ts = refl
 
--- directions multiply by the sum of their exponents; the inverse of a direction is its conjugate
+-- the direction of the number 1
 abbrev pub zero_dir : Dir
 zero_dir = record { m = pos 0; n = pos 0 }
 
+-- directions multiply by the sum of their exponents
 abbrev pub dir_sum : Dir → Dir → Dir
 dir_sum d e = record { m = d.m +ℤ e.m; n = d.n +ℤ e.n }
 
+-- the inverse of a direction, which is its conjugate
 abbrev pub dir_neg : Dir → Dir
 dir_neg d = record { m = neg_ℤ d.m; n = neg_ℤ d.n }
 
+-- a coefficient times a direction; products, negatives and conjugates of such terms
 abbrev pub term_of : ℤ → Dir → Term
 term_of c d = record { dir = d; c = c }
 
@@ -91,6 +96,7 @@ infixl 70 ◌*ₚ◌
 unfoldable pub ◌+ₚ◌ : FormalPoint → FormalPoint → FormalPoint
 p +ₚ q = point_of (terms p ++ terms q)
 
+-- the negative negates coefficients
 unfoldable pub negative : FormalPoint → FormalPoint
 negative p = point_of (map term_neg (terms p))
 

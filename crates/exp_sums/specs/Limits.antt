@@ -10,6 +10,7 @@ use Rattle.exp_sums.specs.FormalPoint.{FormalPoint, terms, point_of}
 abbrev pub terms_weight : List Term → ℕ
 terms_weight ts = sum_by (λ t. unsigned_abs t.c) ts
 
+-- the weight of a formal point
 abbrev pub weight : FormalPoint → ℕ
 weight p = terms_weight (terms p)
 

@@ -13,5 +13,6 @@ dir_reach d = unsigned_abs d.m + unsigned_abs d.n
 abbrev pub terms_reach : List Term → ℕ
 terms_reach ts = sum_by (λ t. unsigned_abs t.c * dir_reach t.dir) ts
 
+-- that of a formal point
 abbrev pub reach : FormalPoint → ℕ
 reach p = terms_reach (terms p)

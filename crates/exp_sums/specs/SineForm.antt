@@ -1,4 +1,5 @@
--- The sine form of a formal point: with s odd, the sum of c·s(mx+ny) over the terms, written with the directions of one half of the plane.
+-- The sine form of a formal point: for an odd function s, as the sine, the sum of c·s(mx+ny) over the terms, written with the directions of one half
+-- of the plane.
 use Rattle.std.specs.Prelude.{Bool, ◌&&◌, ◌||◌, List, [], ◌∷◌, pos, if◌then◌else◌, int_lt}
 use Rattle.std.specs.List.{flat_map}
 use Rattle.std.specs.Ordering.{int_eq}
@@ -15,5 +16,6 @@ is_upper d = int_lt (pos 0) d.m || (int_eq d.m (pos 0) && int_lt (pos 0) d.n)
 abbrev pub sine_terms : Term → List Term
 sine_terms t = if is_upper t.dir then t ∷ [] else (if is_upper (dir_neg t.dir) then term_neg (term_conj t) ∷ [] else [])
 
+-- that of each term, added up
 unfoldable pub sine_form : FormalPoint → FormalPoint
 sine_form p = point_of (flat_map sine_terms (terms p))

@@ -167,6 +167,20 @@ none_in_row t w uppers lowers k least is shift below above some =
     through : (b c : ℤ) → pos 0 ≤ℤ b → b ≤ℤ c → pos 0 ≤ℤ c
     through b c h k = omega (arith, ints)
 
+-- nor where the least one misses what sizes need that are at most those of the row
+pub none_so_deep : (t : Threshold) (w : List ℕ) (uppers lowers : List ℤ) (k : ℕ) (least : ℤ) (s : Sizes) → IsThreshold t → HasShift w
+    → ((l : ℕ) → IsPlace w l → least ≤ℤ difference uppers lowers k l)
+    → ((v : FormalPoint) (l : ℕ) → IsShift w v → IsPlace w l → AreAtMost s (sizes_of (defining_function v w k l)))
+    → ¬ (needed_at t s ≤ℤ (pos 0 -ℤ least)) → ¬ (SomeInRowFalls (needed_by t) w uppers lowers k)
+none_so_deep t w uppers lowers k least s is shift below at_least missed some =
+    let f = defining_function shift.0 w k some.lower in
+    missed (through (needed_at t s) (needed_by t f) (difference uppers lowers k some.lower) least
+    (needed_mono t s (sizes_of f) is (at_least shift.0 some.lower shift.1 some.is_lower)) (some.falls shift.0 shift.1)
+    (below some.lower some.is_lower))
+  where
+    through : (n m g z : ℤ) → n ≤ℤ m → g ≤ℤ neg_ℤ m → z ≤ℤ g → n ≤ℤ (pos 0 -ℤ z)
+    through n m g z h k l = omega (arith, ints)
+
 -- ---- what a comparison says of all
 
 -- what is false does not hold of what would follow

@@ -18,3 +18,4 @@ pub mod Tested
 pub mod Tests
 pub mod Stepping
 pub mod Placing
+pub mod Rows

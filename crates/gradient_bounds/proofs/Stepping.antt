@@ -1,15 +1,14 @@
 -- The numbers of heights, edge by edge, by the numbers of forms.
-use Rattle.std.proofs.Common.{◌≡◌, sym, ap, ap₂, subst, ◌∙◌, ℕ, ◌+◌, ◌^◌, ◌<◌, ◌≤◌}
+use Rattle.std.proofs.Common.{◌≡◌, refl, sym, ap, ap₂, subst, ◌∙◌, ℕ, ◌+◌, ◌^◌, ◌<◌, ◌≤◌}
 use Rattle.std.proofs.Common.{List, length, get_or, set, slice_index_or, ℤ, pos, ◌+ℤ◌, ◌-ℤ◌, unsigned_abs, arith}
 use Rattle.std.proofs.Common.{FitsSigned}
 use Rattle.std.specs.Int.{w128}
 use Rattle.std.specs.List.{All}
+use Rattle.std.specs.Global.{Vec}
 use Rattle.std.proofs.lemmas.Int.{ints, fits_signed_from_abs}
-use Rattle.std.proofs.lemmas.List.{get_or_default}
 use Rattle.ring_solver.proofs.Whole.{ℤ_ring, ℤ_image}
 use Rattle.edge_words.specs.Letters.{IsPlace}
 use Rattle.edge_words.specs.Word.{IsWord}
-use Rattle.exp_sums.specs.declared.terms.Term.{Term}
 use Rattle.exp_sums.specs.FormalPoint.{FormalPoint, terms, zero_point, ◌-ₚ◌}
 use Rattle.exp_sums.specs.Limits.{weight}
 use Rattle.exp_sums.specs.Weigh.{weigh_terms}
@@ -20,7 +19,9 @@ use Rattle.defining_functions.specs.Heights.{height, upper_height, lower_height}
 use Rattle.defining_functions.specs.Steps.{IsStep}
 use Rattle.defining_functions.specs.declared.step.Step.{Step}
 use Rattle.defining_functions.proofs.Limits.{upper_height_limits, lower_height_limits}
+use Rattle.gradient_bounds.specs.declared.placed_term.PlacedTerm.{PlacedTerm}
 use Rattle.gradient_bounds.specs.declared.sine_low.SineLow.{SineLow}
+use Rattle.gradient_bounds.specs.HeightSums.{AreRowsOf, dirs_of, terms_at}
 use Rattle.gradient_bounds.specs.HeightNumbers.{IsFormNumber, AreFormNumbers, IsWayNumber}
 use Rattle.gradient_bounds.specs.Kept.{IsSmallEntry, IsNumberOf}
 use Rattle.gradient_bounds.specs.Table.{low_in, number_in}
@@ -118,13 +119,11 @@ way_of w table forms numbers i s step h =
 
 -- ---- the numbers of forms
 
-pub next_form : (table : List SineLow) (forms : List FormalPoint) (numbers : List ℤ) (i : ℕ) (f : FormalPoint) (ts : List Term) (z : ℤ) → i < length numbers
-    → i < length forms → f ≡ slice_index_or forms i f → ts ≡ terms f → z ≡ weigh_terms ℤ_ring ℤ_image (low_in table) ts → unsigned_abs z ≤ 2 ^ 76
+pub next_form : (table : List SineLow) (forms : List FormalPoint) (rows : List (Vec PlacedTerm)) (numbers : List ℤ) (i : ℕ) (row : Vec PlacedTerm) (z : ℤ)
+    → i < length numbers → i < length forms → AreRowsOf (dirs_of table) forms rows
+    → z ≡ weigh_terms ℤ_ring ℤ_image (low_in table) (terms_at (dirs_of table) (slice_index_or rows i row).items) → unsigned_abs z ≤ 2 ^ 76
     → ((j : ℕ) (d : ℤ) → j < i → (f : FormalPoint) → IsFormNumber table (slice_index_or forms j f) (get_or numbers j d))
     → (j : ℕ) (d : ℤ) → j < i + 1 → (f : FormalPoint) → IsFormNumber table (slice_index_or forms j f) (get_or (set numbers i z) j d)
-next_form table forms numbers i f ts z below below' f_is ts_are z_is size before =
+next_form table forms rows numbers i row z below below' are z_is size before =
     table_step (λ j y. (f : FormalPoint) → IsFormNumber table (slice_index_or forms j f) y) numbers i z below before
-    (λ g. record {
-      small = size;
-      is = z_is ∙ ap (weigh_terms ℤ_ring ℤ_image (low_in table)) (ts_are ∙ ap terms (f_is ∙ get_or_default forms i f g below'));
-    })
+    (λ f. record { small = size; is = z_is ∙ (are.each i row below' f).same table refl })

@@ -36,8 +36,8 @@ IsClearAtPoint w x y e = EachFunction w (IsClearFunction x y e)
 
 -- ---- on a box
 
--- How far the value of a function may fall or rise from the centre of a box to any other point of it: pi·reach·half the side. A sine's slope is at
--- most pi in each half turn.
+-- How far the value of a function may fall or rise from the centre of a box to any other point of it: pi·reach·half the side. The slope of sin(pi·t)
+-- is at most pi.
 abbrev pub drift : ℕ → Square → FormalPoint → ℚ
 drift n box f = pi_sum n *ℚ (whole (reach f) *ℚ half_side box)
 
@@ -49,7 +49,7 @@ central_value n box f = value_at n f (centre box).x (centre box).y
 abbrev pub IsClearFunctionOn : Square → ℚ → FormalPoint → Type 0
 IsClearFunctionOn box e f = FromSomeOn (λ n. drift n box f +ℚ margin e f ≤ℚ central_value n box f)
 
--- it lies as far below 0
+-- there it is at most the negative of both together, from some n on
 abbrev pub IsShutFunctionOn : Square → ℚ → FormalPoint → Type 0
 IsShutFunctionOn box e f = FromSomeOn (λ n. central_value n box f ≤ℚ neg_ℚ (drift n box f +ℚ margin e f))
 

@@ -7,6 +7,7 @@ ghost use Rattle.gradient_bounds.specs.Decision.{AreNumbers, IsGreatest};
 ghost use Rattle.gradient_bounds.specs.Decision.{needed_by, IsThreshold, FallsBelow, SomeInRowFalls, SomeFallsBelow};
 
 use crate::differences::{difference, nearest};
+use crate::most::least_in_row;
 use crate::needs::reaches_needed;
 use crate::threshold::Threshold;
 use defining_functions::Functions;
@@ -73,8 +74,8 @@ fn one_in_row_falls(
     false
 }
 
-/// The same, where `nearest` is the lower corner with the greatest number. No difference of the row is below 0 where the least
-/// one is not.
+/// The same, where `nearest` is the lower corner with the greatest number. No difference of the row falls where the least one is
+/// not below 0, or misses what the least sizes of the row would need.
 fn row_falls(
     functions: &Functions,
     uppers: &[i128],
@@ -94,6 +95,9 @@ fn row_falls(
 {
     let least = difference(uppers, lowers, k, nearest);
     if least >= 0 {
+        return false;
+    }
+    if !reaches_needed(-least, threshold, &least_in_row(functions, k)) {
         return false;
     }
     one_in_row_falls(functions, uppers, lowers, k, threshold)

@@ -12,11 +12,12 @@ ghost use Rattle.defining_functions.specs.Heights.{lower_height};
 ghost use Rattle.defining_functions.specs.Kept.{AreWithinLimits};
 ghost use Rattle.defining_functions.specs.Steps.{SharesEnd, AreSteps};
 ghost use Rattle.gradient_bounds.specs.HeightNumbers.{AreFormNumbers, IsWayNumber, AreEndNumbers};
-ghost use Rattle.gradient_bounds.specs.HeightSums.{IsPlaceOf, ArePlacesOf, AreRowsOf, dirs_of};
+ghost use Rattle.gradient_bounds.specs.HeightSums.{AreRowsOf, dirs_of, dir_at, terms_at};
 ghost use Rattle.gradient_bounds.specs.Table.{IsRising, low_in};
 ghost use Rattle.gradient_bounds.specs.Kept.{IsSmallEntry, IsNumberOf, AreUppers, AreLowers};
 
 use crate::end_numbers::EndNumbers;
+use crate::placed_term::PlacedTerm;
 use crate::places::Places;
 use crate::sine_low::SineLow;
 use defining_functions::{Functions, SharedEnd, Step};
@@ -35,17 +36,14 @@ fn low_of(table: &[SineLow], dir: Dir) -> i128
     0
 }
 
-/// The same, where the direction's place in the table is known.
-fn low_at(table: &[SineLow], place: usize, dir: Dir) -> i64
+/// The number of the entry at a place.
+fn low_at(table: &[SineLow], place: usize) -> i64
     requires rising { IsRising table.now }
     requires small { All IsSmallEntry table.now }
-    requires place { IsPlaceOf (dirs_of table.now) dir place }
-    ensures { result ≡ low_in table.now dir }
+    requires place { place < length table.now }
+    ensures { result ≡ low_in table.now (dir_at (dirs_of table.now) place) }
 {
-    match table.get(place) {
-        Some(entry) => entry.low as i64,
-        None => 0,
-    }
+    table[place].low as i64
 }
 
 /// The sum, over the terms, of the coefficient times the table's number of the direction.
@@ -62,24 +60,23 @@ fn number_of(terms: &[Term], table: &[SineLow]) -> i128
     total
 }
 
-/// The same, where the directions' places in the table are known.
-fn number_at(terms: &[Term], places: &[usize], table: &[SineLow]) -> i128
+/// The same, where the terms are given by their places in the table.
+fn number_at(row: &[PlacedTerm], table: &[SineLow]) -> i128
     requires rising { IsRising table.now }
-    requires light { terms_weight terms.now ≤ 16384 }
     requires small { All IsSmallEntry table.now }
-    requires places { ArePlacesOf (dirs_of table.now) terms.now places.now }
-    ensures is { result ≡ weigh_terms ℤ_ring ℤ_image (low_in table.now) terms.now }
+    requires placed { All (λ p. p.place < length table.now) row.now }
+    requires light { terms_weight (terms_at (dirs_of table.now) row.now) ≤ 16384 }
+    ensures is { result ≡ weigh_terms ℤ_ring ℤ_image (low_in table.now) (terms_at (dirs_of table.now) row.now) }
     ensures size { unsigned_abs result ≤ 2 ^ 76 }
 {
     let mut total = 0;
-    for (i, term) in terms.iter().enumerate() {
-        let low = low_at(table, places[i], term.dir);
-        total += i128::from(term.c) * i128::from(low);
+    for term in row {
+        total += i128::from(term.c) * i128::from(low_at(table, term.place));
     }
     total
 }
 
-/// Computes the numbers of forms, where the places of their terms' directions in the table are known.
+/// Computes the numbers of forms, where their terms are given by their places in the table.
 pub fn number_forms(numbers: &mut [i128], forms: &[ExpSum], places: &Places, table: &[SineLow])
     requires rising { IsRising table.now }
     requires small { All IsSmallEntry table.now }
@@ -88,8 +85,8 @@ pub fn number_forms(numbers: &mut [i128], forms: &[ExpSum], places: &Places, tab
     requires count { length numbers.old ≡ length forms.now }
     ensures { AreFormNumbers table.now forms.now numbers.new }
 {
-    for (i, form) in forms.iter().enumerate() {
-        numbers[i] = number_at(form.terms(), &places.rows[i], table);
+    for i in 0..forms.len() {
+        numbers[i] = number_at(&places.rows[i], table);
     }
 }
 

@@ -1,8 +1,8 @@
 //! What the numbers of a word's heights are made from.
-ghost use Rattle.std.specs.Prelude.{◌≡◌, ◌↔◌, length, IfOk, IsErrOf};
+ghost use Rattle.std.specs.Prelude.{◌≡◌, List, ℕ, length, IfOk};
 ghost use Rattle.std.specs.List.{All};
-ghost use Rattle.unfolding.specs.Shift.{HasShift};
-ghost use Rattle.defining_functions.specs.declared.fault.FunctionsFault.TheVariants.{NotTranslate};
+ghost use Rattle.defining_functions.specs.Kept.{AreWithinLimits};
+ghost use Rattle.defining_functions.specs.Steps.{AreSteps};
 ghost use Rattle.gradient_bounds.specs.HeightSums.{IsHeightSums, dirs_of};
 ghost use Rattle.gradient_bounds.specs.Table.{IsRising};
 ghost use Rattle.gradient_bounds.specs.Kept.{IsSmallEntry, AreUppers, AreLowers};
@@ -10,27 +10,29 @@ ghost use Rattle.gradient_bounds.specs.Kept.{IsSmallEntry, AreUppers, AreLowers}
 use crate::height_numbers::{number_forms, number_heights, zeros};
 use crate::places::Places;
 use crate::sine_low::SineLow;
-use defining_functions::{Functions, FunctionsFault, HeightSteps};
-use std::alloc::Global;
-use unfolding::Unfolding;
+use defining_functions::{Functions, HeightSteps};
+use std::alloc::{AllocError as OutOfMemory, Global};
 
 /// The steps between a word's heights, with room for the numbers of their forms. Only `of` takes memory.
 #[derive(Drop)]
 pub struct HeightSums {
     pub steps: HeightSteps,
-    /// Where the directions of the forms stand in the table.
+    /// The terms of the forms, by their places in the table.
     pub places: Places,
     /// The numbers of the forms, by the table that was used last.
     pub numbers: Vec<i128>,
 }
 
 impl HeightSums {
-    /// Those of an unfolding's word, for tables with the directions of this one.
-    pub fn of(alloc: Global, u: &Unfolding, table: &[SineLow]) -> Result<HeightSums, FunctionsFault>
-        ensures sums { IfOk result (λ s. IsHeightSums u.now (dirs_of table.now) s) }
-        ensures not_translate { IsErrOf result NotTranslate ↔ ¬ (HasShift u.now) }
+    /// Those with these steps, for tables with the directions of this one.
+    pub fn of(
+        alloc: Global,
+        steps: HeightSteps,
+        table: &[SineLow],
+    ) -> Result<HeightSums, OutOfMemory>
+        requires { AreWithinLimits steps.forms.items }
+        ensures { IfOk result (λ s. (w : List ℕ) → AreSteps w (length w) steps.forms.items steps.steps.items → IsHeightSums w (dirs_of table.now) s) }
     {
-        let steps = HeightSteps::of(alloc, u)?;
         let places = Places::of(alloc, &steps.forms, table)?;
         let numbers = zeros(alloc, steps.forms.len())?;
         Ok(HeightSums {

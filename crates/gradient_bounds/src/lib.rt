@@ -20,6 +20,7 @@ pub mod laws;
 mod most;
 mod needs;
 mod neighbourhood;
+mod placed_term;
 mod places;
 mod prepared;
 mod sine_low;

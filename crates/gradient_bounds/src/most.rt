@@ -1,4 +1,4 @@
-//! Sizes that no function of a word exceeds.
+//! Sizes that no function of a word exceeds, and sizes that none falls short of.
 ghost use Rattle.std.specs.Prelude.{ℕ};
 ghost use Rattle.edge_words.specs.Letters.{IsPlace};
 ghost use Rattle.exp_sums.specs.FormalPoint.{FormalPoint};
@@ -14,6 +14,13 @@ const LARGEST: Sizes = Sizes {
     weight: 16384,
     reach: 4_259_840,
     bend: 553_779_200,
+};
+
+/// What they are at least.
+const NONE: Sizes = Sizes {
+    weight: 0,
+    reach: 0,
+    bend: 0,
 };
 
 /// Sizes that are at least those of each function: the greatest ones, where the sizes are kept.
@@ -38,5 +45,18 @@ pub fn most_in_row(functions: &Functions, k: u32) -> Sizes
     match functions.greatest_in_row(k) {
         Some(greatest) => greatest,
         None => LARGEST,
+    }
+}
+
+/// Sizes that are at most those of each function of the k-th upper corner: the least ones, where the sizes are kept.
+pub fn least_in_row(functions: &Functions, k: u32) -> Sizes
+    requires { IsPlace functions.now k }
+    ensures small { AreSmall result }
+    ensures least { (v : FormalPoint) (l : ℕ) → IsShift functions.now v → IsPlace functions.now l
+        → AreAtMost result (sizes_of (defining_function v functions.now k l)) }
+{
+    match functions.least_in_row(k) {
+        Some(least) => least,
+        None => NONE,
     }
 }

@@ -29,18 +29,19 @@ use crate::height_sums::HeightSums;
 use crate::sine_low::SineLow;
 use crate::table::fill;
 use crate::threshold::Threshold;
-use defining_functions::Functions;
+use defining_functions::{Functions, HeightSteps};
 use directed_fixed::{Interval, Scale};
 use edge_words::Word;
 use rat_core::Frac;
 use sine_fixed::SineTable;
 use std::alloc::{AllocError as OutOfMemory, Global};
 use std::marker::{Model, PhantomData};
+use std::rc::Rc;
 use unfolding::Unfolding;
 
 /// A stable word with its functions and a table of sines, for tests at the scale `S`.
 ///
-/// Only `new` and `keep_sizes` take memory.
+/// Only `new`, `keep_sizes` and `keep_sizes_beside` take memory.
 #[derive(Drop)]
 pub struct Prepared<S: Scale> {
     word: Word,
@@ -48,8 +49,8 @@ pub struct Prepared<S: Scale> {
     /// Where the table was filled last.
     point: Option<(Frac, Frac)>,
     table: Vec<SineLow>,
-    /// What the table is filled from at the centres of boxes, if it is kept.
-    sine_table: Option<SineTable>,
+    /// What the table is filled from at the centres of boxes, if it is kept. Other words may have the same.
+    sine_table: Option<Rc<SineTable>>,
     /// What the numbers of the heights are made from.
     sums: HeightSums,
     /// The numbers of the upper heights by the table, for each edge.
@@ -86,9 +87,10 @@ impl<S: Scale> Prepared<S> {
             return Err(PrepareFault::Unstable);
         }
         let unfolding = Unfolding::of(alloc, word)?;
-        let functions = Functions::of(alloc, &unfolding)?;
+        let steps = HeightSteps::of(alloc, &unfolding)?;
+        let functions = Functions::by_steps(alloc, &unfolding, &steps)?;
         let table = blank_table(alloc, &functions)?;
-        let mut sums = HeightSums::of(alloc, &unfolding, &table)?;
+        let mut sums = HeightSums::of(alloc, steps, &table)?;
         let mut uppers = zeros(alloc, functions.letters() as usize)?;
         let mut lowers = zeros(alloc, functions.letters() as usize)?;
         sums.number(&mut uppers, &mut lowers, &functions, &table);
@@ -111,8 +113,20 @@ impl<S: Scale> Prepared<S> {
     pub fn keep_sizes(&mut self, alloc: Global) -> Result<(), OutOfMemory>
         ensures { self.new ≡ self.old }
     {
+        let sines = Rc::new(alloc, SineTable::new(alloc)?)?;
+        self.keep_sizes_beside(alloc, sines)
+    }
+
+    /// The same with tables of sines that are there already: many words share one pair.
+    pub fn keep_sizes_beside(
+        &mut self,
+        alloc: Global,
+        sines: Rc<SineTable>,
+    ) -> Result<(), OutOfMemory>
+        ensures { self.new ≡ self.old }
+    {
         self.functions.keep_sizes(alloc)?;
-        self.sine_table = Some(SineTable::new(alloc)?);
+        self.sine_table = Some(sines);
         Ok(())
     }
 
@@ -142,7 +156,7 @@ impl<S: Scale> Prepared<S> {
         ensures word { self.new.word ≡ self.old.word }
         ensures point { self.new.point ≡ Some (x, y) }
     {
-        fill::<S>(&mut self.table, self.sine_table.as_ref(), x, y);
+        fill::<S>(&mut self.table, self.sine_table.as_deref(), x, y);
         self.sines = self.sines.saturating_add(self.table.len() as u64);
         self.sums.number(
             &mut self.uppers,

@@ -94,14 +94,14 @@ both_are_one first second one ones (v, w) (v', w') x y p q same =
     second_is_one first second v v' w w' x y both.0 (ones v p.0) p.1 q.1 both.1
 
 -- an offence in the second part, after what the first said
-record InTheSecond {V W : Type 0} (first : Part V) (second : V → Part W) (bytes : List ℕ) (line : ℕ) (r : Reason) : Type 0 where
-  value : V
-  says : first.Says value
-  rest : List ℕ
-  number : ℕ
-  text : bytes ≡ text_of (first.lines_of value) ++ rest
-  line_is : line ≡ length (first.lines_of value) + number
-  offence : IsFirstOffence (second value).grammar rest number r
+pub record InTheSecond {V W : Type 0} (first : Part V) (second : V → Part W) (bytes : List ℕ) (line : ℕ) (r : Reason) : Type 0 where
+  pub value : V
+  pub says : first.Says value
+  pub rest : List ℕ
+  pub number : ℕ
+  pub text : bytes ≡ text_of (first.lines_of value) ++ rest
+  pub line_is : line ≡ length (first.lines_of value) + number
+  pub offence : IsFirstOffence (second value).grammar rest number r
 
 split : {V W : Type 0} (first : Part V) (second : V → Part W) (bytes rest : List ℕ) (line : ℕ) (r : Reason) (due : (followed_by first second).grammar.Due)
     → (followed_by first second).grammar.IsReached due → bytes ≡ text_of ((followed_by first second).grammar.lines_before due) ++ rest
@@ -123,7 +123,7 @@ split first second bytes rest line r (InSecond v due) reached text number least 
       offence = record { due = due; rest = rest; reached = reached.1; text = refl; number = refl; least = least };
     })
 
-offence_splits : {V W : Type 0} (first : Part V) (second : V → Part W) (bytes : List ℕ) (line : ℕ) (r : Reason)
+pub offence_splits : {V W : Type 0} (first : Part V) (second : V → Part W) (bytes : List ℕ) (line : ℕ) (r : Reason)
     → IsFirstOffence (followed_by first second).grammar bytes line r → IsFirstOffence first.grammar bytes line r ⊎ InTheSecond first second bytes line r
 offence_splits first second bytes line r o = split first second bytes o.rest line r o.due o.reached o.text o.number o.least
 
@@ -167,7 +167,7 @@ both_offences_are_one {V} first second one never here there bytes line other r s
 
 -- ---- parts in turn
 
-due_or_over : {V : Type 0} (is_due : List V → Bool) (before : List V) → is_due before ≡ true → is_due (before ++ []) ≡ false → ⊥
+pub due_or_over : {V : Type 0} (is_due : List V → Bool) (before : List V) → is_due before ≡ true → is_due (before ++ []) ≡ false → ⊥
 due_or_over is_due before due over =
     let here : is_due before ≡ false = subst (λ (l : List _). is_due l ≡ false) (append-nil before) over in
     let never : true ≡ false = sym due ∙ here in
@@ -200,17 +200,17 @@ pub turns_are_one : {V : Type 0} (is_due : List V → Bool) (part_after : List V
 turns_are_one is_due part_after one vs ws x y p q same = turns_are_one_from is_due part_after one [] vs ws x y p.0 p.1 q.0 q.1 same
 
 -- an offence in the turn after these values
-record InATurn {V : Type 0} (is_due : List V → Bool) (part_after : List V → Part V) (bytes : List ℕ) (line : ℕ) (r : Reason) : Type 0 where
-  said : List V
-  are_said : AreSaid is_due part_after [] said
-  due : is_due said ≡ true
-  rest : List ℕ
-  number : ℕ
-  text : bytes ≡ text_of (lines_in_turn part_after [] said) ++ rest
-  line_is : line ≡ length (lines_in_turn part_after [] said) + number
-  offence : IsFirstOffence (part_after said).grammar rest number r
+pub record InATurn {V : Type 0} (is_due : List V → Bool) (part_after : List V → Part V) (bytes : List ℕ) (line : ℕ) (r : Reason) : Type 0 where
+  pub said : List V
+  pub are_said : AreSaid is_due part_after [] said
+  pub due : is_due said ≡ true
+  pub rest : List ℕ
+  pub number : ℕ
+  pub text : bytes ≡ text_of (lines_in_turn part_after [] said) ++ rest
+  pub line_is : line ≡ length (lines_in_turn part_after [] said) + number
+  pub offence : IsFirstOffence (part_after said).grammar rest number r
 
-in_a_turn : {V : Type 0} (is_due : List V → Bool) (part_after : List V → Part V) (bytes : List ℕ) (line : ℕ) (r : Reason)
+pub in_a_turn : {V : Type 0} (is_due : List V → Bool) (part_after : List V → Part V) (bytes : List ℕ) (line : ℕ) (r : Reason)
     → IsFirstOffence (in_turn is_due part_after).grammar bytes line r → InATurn is_due part_after bytes line r
 in_a_turn is_due part_after bytes line r o =
     let lines = lines_in_turn part_after [] o.due.said in

@@ -11,3 +11,4 @@ pub mod Steps
 pub mod Counted
 pub mod Refused
 pub mod Laws
+pub mod Between

@@ -1,5 +1,5 @@
 -- The least reasons of lines are those of the bytes that begin with them.
-use Rattle.std.proofs.Common.{◌≡◌, ℕ, ◌<◌, List, refl, ap, subst, arith, inl, inr}
+use Rattle.std.proofs.Common.{◌≡◌, ◌⊎◌, ℕ, ◌<◌, List, refl, ap, subst, arith, inl, inr}
 use Rattle.std.proofs.lemmas.Bool.{cases_lt}
 use Rattle.line_grammar.specs.declared.reason.Reason.{Reason}
 use Rattle.line_grammar.specs.declared.reason.Reason.TheVariants.{TooLong, Ends, OtherLine, Number, CornerOutside, NotConvex}
@@ -74,15 +74,20 @@ one_number_of TooMany TooMany is = refl
 one_number_of TooShallow TooShallow is = refl
 one_number_of r s is = absurd (omega (arith, is))
 
-pub least_is_one : (has lacks : Reason → Type 0) → ((r : Reason) → has r → lacks r → ⊥) → (r s : Reason) → IsLeast has lacks r → IsLeast has lacks s → r ≡ s
-least_is_one has lacks apart r s p q =
+-- two least reasons are one, or else this follows from a reason that is there and is not
+pub least_differ : (Between : Type 0) (has lacks : Reason → Type 0) → ((r : Reason) → has r → lacks r → Between) → (r s : Reason) → IsLeast has lacks r
+    → IsLeast has lacks s → (r ≡ s) ⊎ Between
+least_differ Between has lacks apart r s p q =
     elim (cases_lt (number_of r) (number_of s)) [
-      | inl less ↦ absurd (apart r p.holds (q.none_less r less))
+      | inl less ↦ inr (apart r p.holds (q.none_less r less))
       | inr within ↦ elim (cases_lt (number_of s) (number_of r)) [
-        | inl less ↦ absurd (apart s q.holds (p.none_less s less))
-        | inr both ↦ one_number_of r s (omega (arith, within, both))
+        | inl less ↦ inr (apart s q.holds (p.none_less s less))
+        | inr both ↦ inl (one_number_of r s (omega (arith, within, both)))
       ]
     ]
+
+pub least_is_one : (has lacks : Reason → Type 0) → ((r : Reason) → has r → lacks r → ⊥) → (r s : Reason) → IsLeast has lacks r → IsLeast has lacks s → r ≡ s
+least_is_one has lacks apart r s p q = elim (least_differ ⊥ has lacks apart r s p q) [ inl same ↦ same | inr never ↦ absurd never ]
 
 pub bytes_apart : (has : List ℕ → Reason → Type 0) (bytes : List ℕ) (r : Reason) → HaveReason has bytes r
     → LackReason (λ line s. ¬ (has line s)) bytes r → ⊥

@@ -54,6 +54,7 @@ pub data FollowingDue (First V : Type 0) (Second : V → Type 0) : Type 0 where
   InFirst : (due : First) → FollowingDue First V Second
   InSecond : (value : V) (due : Second value) → FollowingDue First V Second
 
+-- what a due line of either part is in both, one after the other
 abbrev pub IsReachedFollowing : {V W : Type 0} (first : Part V) (second : V → Part W)
     → FollowingDue first.grammar.Due V (λ v. (second v).grammar.Due) → Type 0
 IsReachedFollowing first second (InFirst due) = first.grammar.IsReached due

@@ -23,6 +23,7 @@ space = 32
 abbrev pub HasNoSpace : List ℕ → Type 0
 HasNoSpace bytes = All (λ byte. byte ≢ space) bytes
 
+-- two fields with a space between
 abbrev pub two_fields : List ℕ → List ℕ → List ℕ
 two_fields first second = first ++ space ∷ second
 

@@ -1,6 +1,6 @@
 -- Bytes that are gathered, and passed on from the front.
-use Rattle.std.proofs.Common.{◌≡◌, ℕ, ◌-◌, ◌≤◌, List, [], ◌++◌, length, take, drop, Some, None, Ok, Err, OnOk, refl, sym, ap, ◌∙◌, subst, arith}
-use Rattle.std.proofs.Common.{take-append-drop, append_assoc, append-nil, length-append}
+use Rattle.std.proofs.Common.{◌≡◌, ℕ, ◌-◌, ◌≤◌, List, ◌++◌, length, take, drop, Some, None, Ok, Err, OnOk, sym, ap, ◌∙◌, subst, arith}
+use Rattle.std.proofs.Common.{take-append-drop, append_assoc, length-append}
 use Rattle.std.proofs.lemmas.List.{append_cancel_left, drop-take, take-append-le}
 use Rattle.std.proofs.Math.Seq.{take-length, take-append_seam}
 use Rattle.std.proofs.Transfers.{starts_with_length}
@@ -24,12 +24,6 @@ passed_split bytes copied n len order within copy =
     ap (λ (xs : List ℕ). take (len - n) xs) copy ∙ take-copy_within bytes n len order within in
     sym (take-append-drop n (take len bytes)) ∙ ap (λ (xs : List ℕ). front ++ xs) (rest ∙ sym left)
 
--- bytes that are told have grown by none
-pub HasGrown-refl : (a b : Option (List ℕ)) → b ≡ a → HasGrown a b
-HasGrown-refl None b same = tt
-HasGrown-refl (Some xs) None same = cc
-HasGrown-refl (Some xs) (Some ys) same = let is : ys ≡ xs = cc in ap (λ (bytes : List ℕ). take (length xs) bytes) is ∙ take-length xs
-
 -- they grow further
 pub HasGrown-appends : (a b c : Option (List ℕ)) (bytes : List ℕ) → HasGrown a b → Appends b c bytes → HasGrown a c
 HasGrown-appends None b c bytes grown more = tt
@@ -37,18 +31,6 @@ HasGrown-appends (Some xs) None c bytes grown more = absurd grown
 HasGrown-appends (Some xs) (Some ys) None bytes grown more = absurd more
 HasGrown-appends (Some xs) (Some ys) (Some zs) bytes grown more =
     ap (λ (all : List ℕ). take (length xs) all) more ∙ take-append-le (length xs) ys bytes (starts_with_length ys xs grown) ∙ grown
-
--- they stay
-pub HasGrown-keeps : (a b c : Option (List ℕ)) → HasGrown a b → Keeps b c → HasGrown a c
-HasGrown-keeps None b c grown kept = tt
-HasGrown-keeps (Some xs) None c grown kept = absurd grown
-HasGrown-keeps (Some xs) (Some ys) None grown kept = absurd kept
-HasGrown-keeps (Some xs) (Some ys) (Some zs) grown kept = ap (λ (bytes : List ℕ). take (length xs) bytes) kept ∙ grown
-
--- none is held
-pub append_known-nil : (known : Option (List ℕ)) → append_known known [] ≡ known
-append_known-nil None = refl
-append_known-nil (Some xs) = ap (λ (bytes : List ℕ). Some bytes) (append-nil xs)
 
 -- what was passed on of a text whose rest is held
 Appends-sent : (old new : Option (List ℕ)) (held text : List ℕ) → HasGrown old new → Appends old (append_known new held) text

@@ -3,7 +3,7 @@ use Rattle.std.proofs.Common.{◌≡◌, refl, sym, ap, ◌∙◌, subst, ℕ, z
 use Rattle.std.specs.Prelude.{⊤, Bool, true, false}
 use Rattle.std.specs.List.{All}
 use Rattle.std.proofs.lemmas.List.{append-nil}
-use Rattle.std.proofs.lemmas.List.Elements.{All-nil, All-cons, All-head, All-tail}
+use Rattle.std.proofs.lemmas.List.Elements.{All-nil, All-cons, All-tail}
 use Rattle.std.proofs.lemmas.Grind.{pow_more}
 use Rattle.rational_polygon.specs.Square.{Square, unit_square, child}
 use Rattle.orbit_tile.specs.declared.patch.Patch.{Patch}
@@ -129,10 +129,6 @@ after_division w depth patches box due reached cause =
 pub next_reached : (w : List ℕ) (depth : ℕ) (patches : List Patch) (due : List Square) (box : Square) (others : List Square)
     → HasReached w depth patches due → due ≡ box ∷ others → HasReached w depth patches (box ∷ others)
 next_reached w depth patches due box others reached is = subst (HasReached w depth patches) is reached
-
-pub is_deep : (w : List ℕ) (depth : ℕ) (patches : List Patch) (box : Square) (others : List Square) → HasReached w depth patches (box ∷ others)
-    → box.level ≤ depth
-is_deep w depth patches box others reached = All-head (λ (box : Square). box.level ≤ depth) box others reached.deep
 
 -- where none is due, the patches are a tile
 pub whole_tile : (w : List ℕ) (depth : ℕ) (patches : List Patch) (due : List Square) → HasReached w depth patches due → due ≡ [] → IsTile w depth patches

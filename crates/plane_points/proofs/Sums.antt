@@ -4,7 +4,7 @@ use Rattle.std.proofs.Common.{ℤ, pos, ◌+ℤ◌, ◌-ℤ◌, ◌*ℤ◌, ◌�
 use Rattle.std.specs.Int.{w64, w128}
 use Rattle.std.proofs.lemmas.Int.{ints, fits_signed_from_abs}
 use Rattle.std.proofs.lemmas.List.{take_more, take_all}
-use Rattle.std.proofs.lemmas.List.Sums.{sum_by-take-le, sum_by_more_le}
+use Rattle.std.proofs.lemmas.List.Sums.{sum_by_more_le}
 use Rattle.ring_solver.specs.Expression.{num, opp, ◌⊞◌, ◌⊟◌, ◌⊠◌}
 use Rattle.ring_solver.specs.Ordered.{le}
 use Rattle.ring_solver.proofs.Solver.{ring₁, ring₃}
@@ -80,11 +80,6 @@ first_weight ts i e below = subst (λ us. terms_weight (take i ts) + unsigned_ab
 -- one more term
 module _ (at : TriangleAngles) (ts : List Term) (i : ℕ) (e : Term) (below : i < length ts) (light : terms_weight ts ≤ 2 ^ 31) (s : Spot)
     (so_far : IsSumOf at ts i s) where
-  pub small_so_far : IsSmallSpot (2 ^ 93) s
-  small_so_far =
-      let all : terms_weight (take i ts) ≤ terms_weight ts = sum_by-take-le (λ (t : Term). unsigned_abs t.c) ts i in
-      record { x = omega (arith, so_far.first_small, all, light); y = omega (arith, so_far.second_small, all, light) }
-
   -- the coefficient as the machine reads it
   pub factor_read : FitsSigned w64 (get_or ts i e).c
   factor_read =

@@ -8,7 +8,7 @@ use Rattle.std.specs.Prelude.{int_le}
 use Rattle.ring_solver.specs.Ordered.{OrderedRing, times}
 use Rattle.ring_solver.specs.Expression.{num, ◌⊞◌, ◌⊠◌}
 use Rattle.ring_solver.proofs.Solver.{ring₂}
-use Rattle.ring_solver.proofs.Certificate.{le₄, le₆, moved, at_most_of_same}
+use Rattle.ring_solver.proofs.Certificate.{le₄, le₆, moved}
 use mathlib.Core.HLevel.{Π_prop}
 use borrow.Author.Differences.{below_in, le_in, le_not}
 use Rattle.std.proofs.Math.IntN.{zero-*ℤ}
@@ -148,8 +148,3 @@ mul_nonneg = ind₂ (λ x y. whole 0 ≤ℚ x → whole 0 ≤ℚ y → whole 0 �
 
 abbrev pub ℚ_ordered : OrderedRing
 ℚ_ordered = record { ring = ℚ_ring; AtMost = ◌≤ℚ◌; at_most_refl = le_refl; at_most_trans = le_trans; add_mono = add_mono; mul_nonneg = mul_nonneg }
-
--- quotients that are equal have equal cross products
-pub over_same_back : (n m : ℤ) (d e : ℕ) → 0 < d → 0 < e → n ÷ d ≡ m ÷ e → n *ℤ pos e ≡ m *ℤ pos d
-over_same_back n m d e p q h =
-    ≤ℤ_antisym (n *ℤ pos e) (m *ℤ pos d) (over_le_back n m d e p q (at_most_of_same ℚ_ordered h)) (over_le_back m n e d q p (at_most_of_same ℚ_ordered (sym h)))

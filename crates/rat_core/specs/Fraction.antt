@@ -9,6 +9,7 @@ use Rattle.std.proofs.Common.{zero-lt-suc}
 use Rattle.rat_core.specs.Ratio.{Ratio, IsSame, sum_of, product_of, minus_of, is_at_most, floor_of}
 use Rattle.rat_core.specs.Respect.{same_sum, same_product, same_minus, same_at_most, same_floor}
 
+-- the classes of pairs with equal cross products
 abbrev pub ℚ : Type 0
 ℚ = Quot IsSame
 
@@ -30,6 +31,7 @@ whole n = pos n ÷ 1
 
 infixl 6 ◌+ℚ◌ ◌-ℚ◌
 infixl 7 ◌*ℚ◌
+-- sum, product and negative: those of any pairs of the classes
 unfoldable pub ◌+ℚ◌ : ℚ → ℚ → ℚ
 ◌+ℚ◌ = lift₂ Quot-set (λ a b. mk (sum_of a b)) (λ a a' b b' h k. sound (same_sum a a' b b' h k))
 
@@ -47,12 +49,14 @@ unfoldable pub at_most : ℚ → ℚ → Bool
 at_most = lift₂ Bool-set is_at_most same_at_most
 
 infix 4 ◌≤ℚ◌ ◌<ℚ◌
+-- the order: x < y where y ≤ x is not so
 pub record ◌≤ℚ◌ (x y : ℚ) : Type 0 where
   pub le : T (at_most x y)
 
 pub record ◌<ℚ◌ (x y : ℚ) : Type 0 where
   pub lt : T (not (at_most y x))
 
+-- x, or its negative where x is below 0
 abbrev pub abs : ℚ → ℚ
 abs x = cond (at_most (whole 0) x) x (neg_ℚ x)
 

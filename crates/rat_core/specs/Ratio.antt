@@ -14,6 +14,7 @@ pub record Ratio : Type 0 where
 abbrev pub IsSame : Ratio → Ratio → Type 0
 IsSame r s = r.num *ℤ pos s.den ≡ s.num *ℤ pos r.den
 
+-- sum, product and negative, by the rules for fractions
 abbrev pub sum_of : Ratio → Ratio → Ratio
 sum_of r s = record { num = r.num *ℤ pos s.den +ℤ s.num *ℤ pos r.den; den = r.den * s.den; den_pos = mul-pos r.den_pos s.den_pos }
 

@@ -4,6 +4,7 @@ use Rattle.std.specs.declared.cmp.Ordering.{Ordering}
 use Rattle.std.specs.declared.cmp.Ordering.TheVariants.{Less, Equal, Greater}
 use Rattle.rat_core.specs.Fraction.{ℚ, ◌÷◌, at_most}
 
+-- num / den, not brought to lowest terms
 pub record Written : Type 0 where
   pub num : ℤ
   pub den : ℕ

@@ -20,5 +20,6 @@ IsBeyond box outline =
 abbrev pub IsRightOf : Square → Outline → ℕ → Type 0
 IsRightOf box outline k = (a b : ℕ) → a ≤ 1 → b ≤ 1 → IsStrictlyRight (corner outline k) (corner outline (next outline k)) (box_corner box a b)
 
+-- beyond the rectangle, or strictly right of an edge
 abbrev pub IsApart : Square → Outline → Type 0
 IsApart box outline = IsBeyond box outline ⊎ ((k : ℕ) × IsNumber outline k × IsRightOf box outline k)

@@ -20,6 +20,7 @@ pub record IsNumber (outline : Outline) (k : ℕ) : Type 0 where
   pub at_least : 1 ≤ k
   pub at_most : k ≤ length outline.corners
 
+-- the point of corner k
 abbrev pub corner : Outline → ℕ → Point
 corner outline k = grid_point outline.grid (slice_index_or outline.corners (k - 1) (0, 0))
 
@@ -35,9 +36,11 @@ IsConvexAt outline i j = j ≢ i → j ≢ next outline i → IsStrictlyLeft (co
 abbrev pub IsStrictlyConvex : Outline → Type 0
 IsStrictlyConvex outline = (i j : ℕ) → IsNumber outline i → IsNumber outline j → IsConvexAt outline i j
 
+-- how many grid steps are 1
 abbrev pub IsGrid : ℕ → Type 0
 IsGrid grid = (1 ≤ grid) × (grid ≤ MAX_GRID)
 
+-- how many corners there are
 abbrev pub IsCount : ℕ → Type 0
 IsCount count = (MIN_CORNERS ≤ count) × (count ≤ MAX_CORNERS)
 
@@ -47,6 +50,7 @@ pub record IsInside (grid : ℕ) (c : ℕ × ℕ) : Type 0 where
   pub y : 1 ≤ c.1
   pub sum : c.0 + c.1 < grid
 
+-- a strictly convex polygon, counterclockwise, with its corners strictly inside the triangle x > 0, y > 0, x + y < 1
 pub record IsPolygon (outline : Outline) : Type 0 where
   pub grid : IsGrid outline.grid
   pub count : IsCount (length outline.corners)

@@ -2,6 +2,7 @@
 
 use Rattle.rat_core.specs.Fraction.{ℚ, whole, ◌+ℚ◌, ◌-ℚ◌, ◌*ℚ◌, ◌≤ℚ◌, ◌<ℚ◌}
 
+-- the point (x, y)
 pub record Point : Type 0 where
   pub x : ℚ
   pub y : ℚ

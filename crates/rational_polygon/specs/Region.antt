@@ -14,6 +14,7 @@ use Rattle.rational_polygon.specs.Apart.{IsApart}
 abbrev pub polygon_at : List Outline → ℕ → Outline
 polygon_at region i = slice_index_or region (i - 1) (record { grid = 0; corners = [] })
 
+-- i is the number of a polygon
 pub record IsPolygonOf (region : List Outline) (i : ℕ) : Type 0 where
   pub at_least : 1 ≤ i
   pub at_most : i ≤ length region
@@ -22,6 +23,7 @@ pub record IsPolygonOf (region : List Outline) (i : ℕ) : Type 0 where
 abbrev pub grid_of : List Outline → ℕ
 grid_of region = (polygon_at region 1).grid
 
+-- how many polygons there are
 abbrev pub IsPolygonCount : ℕ → Type 0
 IsPolygonCount count = (1 ≤ count) × (count ≤ MAX_POLYGONS)
 

@@ -19,6 +19,7 @@ pub record IsBox (box : Square) : Type 0 where
   pub column : box.i < 2 ^ box.level
   pub row : box.j < 2 ^ box.level
 
+-- the root of the quadtree
 abbrev pub unit_square : Square
 unit_square = record { i = 0; j = 0; level = 0 }
 
@@ -38,6 +39,7 @@ box_corner box a b = record { x = dyadic (box.i + a) box.level; y = dyadic (box.
 abbrev pub half_side : Square → ℚ
 half_side box = dyadic 1 (box.level + 1)
 
+-- the centre of a box
 abbrev pub centre : Square → Point
 centre box = record { x = dyadic (2 * box.i + 1) (box.level + 1); y = dyadic (2 * box.j + 1) (box.level + 1) }
 

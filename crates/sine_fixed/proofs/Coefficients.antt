@@ -73,20 +73,6 @@ entry_near (suc (suc (suc (suc (suc (suc (suc (suc (suc (suc zero)))))))))) h = 
 entry_near (suc (suc (suc (suc (suc (suc (suc (suc (suc (suc (suc zero))))))))))) h = near_11
 entry_near (suc (suc (suc (suc (suc (suc (suc (suc (suc (suc (suc (suc j)))))))))))) h = absurd (omega (arith, h))
 
-pub entry_falls : (j : ℕ) → j < 11 → entry (suc j) ≤ entry j
-entry_falls zero h = lit≤ tt
-entry_falls (suc zero) h = lit≤ tt
-entry_falls (suc (suc zero)) h = lit≤ tt
-entry_falls (suc (suc (suc zero))) h = lit≤ tt
-entry_falls (suc (suc (suc (suc zero)))) h = lit≤ tt
-entry_falls (suc (suc (suc (suc (suc zero))))) h = lit≤ tt
-entry_falls (suc (suc (suc (suc (suc (suc zero)))))) h = lit≤ tt
-entry_falls (suc (suc (suc (suc (suc (suc (suc zero))))))) h = lit≤ tt
-entry_falls (suc (suc (suc (suc (suc (suc (suc (suc zero)))))))) h = lit≤ tt
-entry_falls (suc (suc (suc (suc (suc (suc (suc (suc (suc zero))))))))) h = lit≤ tt
-entry_falls (suc (suc (suc (suc (suc (suc (suc (suc (suc (suc zero)))))))))) h = lit≤ tt
-entry_falls (suc (suc (suc (suc (suc (suc (suc (suc (suc (suc (suc j))))))))))) h = absurd (omega (arith, h))
-
 pub entry_small : (j : ℕ) → j < 12 → entry j ≤ 2 ^ 60
 entry_small zero h = lit≤ tt
 entry_small (suc zero) h = lit≤ tt

@@ -39,9 +39,6 @@ use Rattle.sine_fixed.proofs.TwoProducts.{two_products_close, shifted_low}
 
 -- ---- tables
 
-pub no_multiples : (d : ℕ) → AreMultiples d 0 []
-no_multiples d = record { count = omega arith; each = λ i e below. absurd (omega (arith, below)) }
-
 -- one entry more
 pub one_multiple_more : (d n : ℕ) (entries : List SineCosine) (x : SineCosine) → AreMultiples d n entries → IsSineCosine (pos n ÷ d) x
     → AreMultiples d (n + 1) (entries ++ x ∷ [])

@@ -233,15 +233,6 @@ near_in_range dir a near angles =
     let product : (unsigned_abs dir.m + unsigned_abs dir.n) * unsigned_abs a.den ≤ 260 * 2 ^ 42 = mul-le-mul sum (angle_size a angles).den in
     omega (arith, product)
 
--- the turn at the machine's numbers
-pub turn_computed : (dir : Dir) (a : Angles) (z : ℤ) → IsAngles a → unsigned_abs z ≤ 2 ^ 52
-    → z ÷ unsigned_abs a.den ≡ turn_of dir (first_angle a) (second_angle a) → kept z ÷ unsigned_abs (kept a.den)
-    ≡ turn_of dir (first_angle a) (second_angle a)
-turn_computed dir a z angles small is =
-    let z_fits : FitsSigned w128 z = fits_128 z (omega arith) in
-    let den_fits = angles_fit a angles in
-    simp to_z-of_z is
-
 -- ---- boxes
 
 -- the centre of a box, over a power of 2

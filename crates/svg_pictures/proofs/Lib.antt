@@ -11,3 +11,7 @@ pub mod Thirds
 pub mod OnePicture
 pub mod Differences
 pub mod BouncePoints
+pub mod DrawnTrees
+pub mod CoveringPictures
+pub mod Spans
+pub mod Boxes

@@ -8,6 +8,7 @@ use Rattle.std.proofs.KnownBytes.{Appends-trans}
 use Rattle.std.proofs.lemmas.Grind.{flat_map-append}
 use Rattle.std.proofs.lemmas.Int.{to_z-of_z}
 use Rattle.std.proofs.lemmas.List.{append-nil, take_more}
+use Rattle.svg_pictures.specs.Svg.{first_line}
 
 -- a text that is that of a number of 64 bits, as it is kept
 pub text_of_64 : (digits text : List ℕ) (z : ℤ) → SFits w64 z → digits ≡ text → text ≡ signed_decimal (to_z w64 (of_z w64 z)) → digits ≡ signed_decimal z
@@ -27,3 +28,13 @@ Appends-next {A} f a b c xs k d within first second =
     ∙ ap (λ (text : List ℕ). flat_map f (take k xs) ++ text) one
     in
     subst (λ (text : List ℕ). Appends a c text) (sym all) (Appends-trans a b c (flat_map f (take k xs)) (f (get_or xs k d)) first second)
+
+-- a number of 64 bits is what it is kept as
+pub kept_as : (z w : ℤ) → SFits w64 z → z ≡ w → to_z w64 (of_z w64 z) ≡ w
+kept_as z w fits is = to_z-of_z w64 z fits ∙ is
+
+-- two first lines with the same numbers
+pub first_lines : (x x' y y' w w' h h' : ℤ) → x ≡ x' → y ≡ y' → w ≡ w' → h ≡ h' → first_line x y w h ≡ first_line x' y' w' h'
+first_lines x x' y y' w w' h h' p q r s =
+    ap (λ (z : ℤ). first_line z y w h) p ∙ ap (λ (z : ℤ). first_line x' z w h) q ∙ ap (λ (z : ℤ). first_line x' y' z h) r
+    ∙ ap (λ (z : ℤ). first_line x' y' w' z) s

@@ -6,4 +6,9 @@ pub mod Ends
 pub mod PathPicture
 pub mod BouncePoints
 pub mod TilePicture
+pub mod Places
+pub mod Spans
+pub mod Widened
+pub mod Colours
+pub mod CoveringPicture
 pub mod Laws

@@ -66,7 +66,7 @@ fn write_rectangle<K: Sink>(patch: Patch, out: &mut K) -> Result<(), Failed>
     )
 }
 
-fn number(n: u32) -> Decimal
+pub(crate) fn number(n: u32) -> Decimal
     ensures { result ≡ decimal n }
 {
     Decimal::new(u64::from(n))

@@ -23,9 +23,6 @@ use Rattle.trig_meaning.proofs.Addition.{adds, sine_bounded}
 abbrev near : ℚ
 near = pos 1 ÷ 2 ^ 66
 
-near_nonneg : whole 0 ≤ℚ near
-near_nonneg = over_nonneg 1 (2 ^ 66)
-
 units_near : whole 8 *ℚ unit ≤ℚ near
 unfolding at_most ◌*ℚ◌ ◌÷◌
 units_near = record { le = tt }

@@ -12,10 +12,12 @@ abbrev pub sign : ℕ → ℚ
 sign zero = whole 1
 sign (suc j) = neg_ℚ (sign j)
 
+-- x^n
 abbrev pub power : ℚ → ℕ → ℚ
 power x zero = whole 1
 power x (suc n) = x *ℚ power x n
 
+-- n!
 abbrev pub factorial : ℕ → ℕ
 factorial zero = 1
 factorial (suc n) = suc n * factorial n

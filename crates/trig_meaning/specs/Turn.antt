@@ -10,6 +10,7 @@ use Rattle.std.specs.Prelude.{ℕ, cond, pos}
 use Rattle.rat_core.specs.Fraction.{ℚ, ◌÷◌, whole, ◌-ℚ◌, ◌*ℚ◌, neg_ℚ, at_most, wrapped}
 use Rattle.trig_meaning.specs.PartialSums.{pi_sum, sine_sum}
 
+-- the four pieces, from left to right
 abbrev pub first_piece : ℕ → ℚ → ℚ
 first_piece n t = sine_sum n (pi_sum n *ℚ t)
 
@@ -30,5 +31,6 @@ sine_within_turn n t =
     (cond (at_most t (pos 3 ÷ 2)) (third_piece n t)
     (fourth_piece n t)))
 
+-- the n-th approximation of sin(pi·t)
 unfoldable pub sine_of_turn : ℕ → ℚ → ℚ
 sine_of_turn n t = sine_within_turn n (wrapped t)

@@ -14,8 +14,8 @@ MirrorsKeepTheirEdges =
 abbrev pub MirrorsUndoThemselves : Type 0
 MirrorsUndoThemselves = (d : ℕ) → IsLetter d → (z : FormalPoint) → mirror d (mirror d z) ≡ z
 
--- the triangle q is the mirror image of p in p's edge from corner e to corner f, and d is the third corner: e and f stand, and q's corner d is the
--- reflection of p's in the edge
+-- the triangle q is the mirror image of p in p's edge from corner e to corner f, seen from e, and d is the third corner: e stands, and q's corner d is
+-- the reflection of p's in the edge
 pub record IsMirrored (p q : ℕ → FormalPoint) (d e f : ℕ) : Type 0 where
   pub stands : q e ≡ p e
   pub reflected : (q d -ₚ p e) *ₚ conj (p f -ₚ p e) ≡ conj (p d -ₚ p e) *ₚ (p f -ₚ p e)

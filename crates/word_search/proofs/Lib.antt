@@ -6,6 +6,7 @@ pub mod Lists
 pub mod Orders
 pub mod Prunings
 pub mod Results
+pub mod OneResult
 mod UnitCircle
 mod Crossings
 mod Numbered

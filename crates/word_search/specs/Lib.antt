@@ -4,3 +4,4 @@ pub mod Prefixes
 pub mod Search
 pub mod Seen
 pub mod Words
+pub mod Laws

@@ -9,6 +9,7 @@ mod balance;
 mod candidate;
 mod corners;
 mod extremes;
+pub mod laws;
 mod least;
 mod listing;
 mod place;

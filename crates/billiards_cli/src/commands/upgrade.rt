@@ -1,10 +1,6 @@
 //! The command `upgrade`: a covering file that is read from the input, in a later version of the format.
-ghost use Rattle.std.specs.Prelude.{◌≡◌, ◌⊎◌, IfErr};
-ghost use Rattle.mcb_ends.specs.Causes.{HasCauseWhere};
-ghost use Rattle.line_grammar.specs.Reading.{ReadsInput};
-ghost use Rattle.covering_file.specs.Faults.{WantsMemory, head_refusal, is_head_read};
-ghost use Rattle.covering_file.specs.declared.file_kind.FileKind.TheVariants.{Cover};
-ghost use Rattle.billiards_cli.specs.Commands.Upgrade.{upgrade_request, upgrade_input};
+ghost use Rattle.std.specs.Prelude.{◌≡◌, ◌⊎◌};
+ghost use Rattle.billiards_cli.specs.Commands.Upgrade.{upgrade_request};
 ghost use Rattle.billiards_cli.specs.Requests.{command_of};
 ghost use Rattle.billiards_cli.specs.Services.{Serves};
 
@@ -12,10 +8,10 @@ use crate::refusal::write_refusal;
 use crate::request::Request;
 use crate::rest::Rest;
 use crate::status::after_writing;
+use crate::whole_file::read_file;
 use crate::{Status, UpgradeVersion};
-use covering_file::{HeadFault, MAX_NODES, Tree, read_tree, write_tree};
-use line_grammar::end_of_input;
-use mcb_ends::{LineReader, Sink, Source};
+use covering_file::{HeadFault, write_tree};
+use mcb_ends::{Sink, Source};
 use std::alloc::Global;
 
 /// It takes a version.
@@ -44,7 +40,7 @@ pub(crate) fn upgrade<S: Source, K: Sink>(
         (record { left = S.left src.new; source_faults = S.faults src.new; written = K.written out.new; sink_faults = K.faults out.new })
         result }
 {
-    match read_input(alloc, src) {
+    match read_file(alloc, src) {
         Ok(tree) => {
             let upgraded = tree.upgraded(version.get());
             after_writing(Status::Done, write_tree(&upgraded, out))
@@ -55,16 +51,4 @@ pub(crate) fn upgrade<S: Source, K: Sink>(
         Err(HeadFault::Read) => Status::ReadFault,
         Err(HeadFault::Memory) => Status::OutOfMemory,
     }
-}
-
-// Reads a covering file. Nothing may stand after it.
-fn read_input<S: Source>(alloc: Global, src: &mut S) -> Result<Tree, HeadFault>
-    ensures reads { ReadsInput upgrade_input head_refusal (S.left src.old) (S.left src.new) result }
-    ensures wanting { IfErr result (WantsMemory Cover (S.left src.old)) }
-    ensures cause { HasCauseWhere is_head_read (S.faults src.old) (S.faults src.new) result }
-{
-    let mut lines = LineReader::new();
-    let tree = read_tree(alloc, MAX_NODES, &mut lines, src)?;
-    end_of_input(&mut lines, src)?;
-    Ok(tree)
 }

@@ -4,6 +4,8 @@ use std::alloc::{AllocError, Global};
 use std::process::Abort;
 use std::test::Fail;
 
+const SIXTY_LETTERS: &str = "123123123123123123123123123123123123123123123123123123123123";
+
 // It reads nothing.
 fn assert_answered(
     rt: &(impl Abort + Alloc<A = Global>),
@@ -30,6 +32,13 @@ fn at_answers_its_arguments(rt: HostRuntime) -> Result<(), Fail> {
         ("123123", ["2", "1", "4"], Status::NotShown, "not shown\n"),
         ("123123", ["3", "1", "5"], Status::NotShown, "not shown\n"),
         ("1212312123", ["2", "2", "5"], Status::Done, "open\n"),
+        (SIXTY_LETTERS, ["1", "1", "3"], Status::Done, "open\n"),
+        (
+            SIXTY_LETTERS,
+            ["2", "1", "4"],
+            Status::NotShown,
+            "not shown\n",
+        ),
     ];
     for (word, triangle, status, text) in rows {
         assert_answered(&rt, word, triangle, status, text)?;

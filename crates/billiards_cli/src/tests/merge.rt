@@ -13,6 +13,11 @@ const FIRST_NODES: &str = "s\ns\no\no\no\ns\ns\no\no\no\n";
 const LAST_NODES: &str =
     "s\ns\no\no\no\ns\nw 1\no\no\no\no\no\no\no\no\no\no\no\no\nend complete\n";
 
+// The same with the first leaf left uncovered.
+const FIRST_UNCOVERED: &str = "s\ns\nu\no\no\ns\ns\no\no\no\n";
+
+const LAST_OPEN: &str = "s\ns\no\no\no\ns\nw 1\no\no\no\no\no\no\no\no\no\no\no\no\nend open 1\n";
+
 // In place of the last nodes: one box is shown whole.
 const WHOLE_BOX: &str = "w 1\no\no\no\no\no\no\nend complete\n";
 
@@ -79,6 +84,32 @@ fn merge_folds_and_fills(rt: HostRuntime) -> Result<(), Fail> {
     assert_merged(&rt, &same, Status::Done, &whole)?;
     let halves = [SQUARE, FIRST_HALF, SQUARE, SECOND_HALF];
     assert_merged(&rt, &halves, Status::NotShown, &[SQUARE, BOTH_HALVES])?;
+    Ok(())
+}
+
+// A box that one file leaves uncovered is the other's.
+#[test]
+fn merge_keeps_what_both_leave_open(rt: HostRuntime) -> Result<(), Fail> {
+    let whole = [HEADER, FIRST_NODES, LAST_NODES];
+    let open = [HEADER, FIRST_UNCOVERED, LAST_OPEN];
+    let filled = [
+        HEADER,
+        FIRST_UNCOVERED,
+        LAST_OPEN,
+        HEADER,
+        FIRST_NODES,
+        LAST_NODES,
+    ];
+    assert_merged(&rt, &filled, Status::Done, &whole)?;
+    let same = [
+        HEADER,
+        FIRST_UNCOVERED,
+        LAST_OPEN,
+        HEADER,
+        FIRST_UNCOVERED,
+        LAST_OPEN,
+    ];
+    assert_merged(&rt, &same, Status::NotShown, &open)?;
     Ok(())
 }
 

@@ -5,7 +5,7 @@ use std::test::Fail;
 // Arguments that ask for nothing leave the input alone.
 #[test]
 fn other_arguments_are_a_wrong_use(rt: HostRuntime) -> Result<(), Fail> {
-    let rows: [&[&str]; 28] = [
+    let rows: [&[&str]; 29] = [
         &[],
         &["help"],
         &["check", "x"],
@@ -19,6 +19,7 @@ fn other_arguments_are_a_wrong_use(rt: HostRuntime) -> Result<(), Fail> {
         &["job", "020"],
         &["demo", "0"],
         &["cover", "x"],
+        &["draw", "x"],
         &["search", "1", "1", "3", "7"],
         &["search", "1", "1", "3", "4"],
         &["search", "1", "1", "3", "26"],

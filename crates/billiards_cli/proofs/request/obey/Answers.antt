@@ -60,3 +60,6 @@ returns-in-DrawnPath-clause-serves g c =
 
 pub returns-in-Merge-clause-serves : goal.returns-in-Merge-clause-serves
 returns-in-Merge-clause-serves g c = rw c.in-Merge.is c.merge.ensures.serves
+
+pub returns-in-Draw-clause-serves : goal.returns-in-Draw-clause-serves
+returns-in-Draw-clause-serves g c = rw c.in-Draw.is c.draw.ensures.serves

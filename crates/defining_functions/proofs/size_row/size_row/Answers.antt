@@ -7,7 +7,7 @@ use Rattle.defining_functions.specs.Functions.{IsWithinFunctionLimits}
 use Rattle.defining_functions.specs.Sizes.{sizes_of, AreAtMost, AreSmall}
 use Rattle.defining_functions.specs.Tables.{IsTable}
 use Rattle.defining_functions.proofs.Tables.{IsTable-snoc}
-use Rattle.defining_functions.proofs.Sizes.{all_at_most, difference_small, sizes_are}
+use Rattle.defining_functions.proofs.Sizes.{all_at_most, all_at_least, difference_small, sizes_are}
 use Rattle.defining_functions.proofs.size_row.size_row.Goals as goal
 
 pub greater_sizes-greatest-requires-clause-second : goal.greater_sizes-greatest-requires-clause-second
@@ -28,11 +28,14 @@ loop-lower-preserved c =
     let next = made.result in
     let next_is = sizes_are next (upper -ₚ c.lower-item.result) made.ensures.weight made.ensures.reach made.ensures.bend in
     let most = c.greater_sizes-greatest in
+    let fewest = c.lesser_sizes-least in
     subst
     (λ xs. record {
       each : IsTable (λ j sizes. (q : FormalPoint) → sizes ≡ sizes_of (upper -ₚ slice_index_or lowers j q)) (i + 1) xs;
       greatest : All (λ s. AreAtMost s most.result) xs;
       small : AreSmall most.result;
+      least : All (λ s. AreAtMost fewest.result s) xs;
+      least_small : AreSmall fewest.result;
     })
     (sym c.in_ok-push.ensures.items)
     (record {
@@ -41,4 +44,7 @@ loop-lower-preserved c =
       greatest = all_at_most (λ (s : Sizes). s) c.loop-lower.sizes.items next c.loop-lower.greatest most.result c.loop-lower.invariant.greatest
           most.ensures.first most.ensures.second;
       small = most.ensures.small;
+      least = all_at_least (λ (s : Sizes). s) c.loop-lower.sizes.items next c.loop-lower.least fewest.result c.loop-lower.invariant.least
+          fewest.ensures.first fewest.ensures.second;
+      least_small = fewest.ensures.small;
     })

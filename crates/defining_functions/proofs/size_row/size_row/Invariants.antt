@@ -10,4 +10,6 @@ invariant-loop-lower l = record {
   each : IsTable (λ j sizes. (q : FormalPoint) → sizes ≡ sizes_of (l.upper -ₚ slice_index_or l.lowers j q)) l.lower-index l.sizes.items;
   greatest : All (λ s. AreAtMost s l.greatest) l.sizes.items;
   small : AreSmall l.greatest;
+  least : All (λ s. AreAtMost l.least s) l.sizes.items;
+  least_small : AreSmall l.least;
 }

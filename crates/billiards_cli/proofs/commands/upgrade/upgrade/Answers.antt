@@ -1,9 +1,9 @@
 use Rattle.std.proofs.Common.{◌≡◌, [], ℕ, subst, refl, inl}
 use Rattle.mcb_ends.specs.Bytes.{Writes}
 use Rattle.covering_file.specs.TreeFile.{TreeFile, tree_file_text, upgraded}
-use Rattle.billiards_cli.specs.Commands.Upgrade.{upgrade_input, IsRefusedFile, UpgradeWantsMemory}
 use Rattle.billiards_cli.specs.Refusals.{refused_text, RefusesLine}
 use Rattle.billiards_cli.specs.Services.{StopsAtNamed}
+use Rattle.billiards_cli.specs.WholeFile.{file_input, IsRefusedFile, FileWantsMemory}
 use Rattle.billiards_cli.specs.declared.status.Status.TheVariants.{Done, Malformed, OutOfMemory}
 use Rattle.billiards_cli.proofs.Inputs.{names_first, fails_in, whole_input}
 use Rattle.billiards_cli.proofs.Serving.{served}
@@ -14,13 +14,13 @@ pub returns-in-Ok-clause-serves : goal.returns-in-Ok-clause-serves
 returns-in-Ok-clause-serves g c =
     let k = g.K.Sink in
     let left = g.S.Source.left c.args.src.now in
-    let left' = g.S.Source.left c.read_input.new.src in
+    let left' = g.S.Source.left c.read_file.new.src in
     let version = c.args.version.now in
     let input = c.in-Ok.ensures.reads in
     let f = c.in-Ok.tree in
     let all : TreeFile = record { heading = upgraded version f.heading; nodes = f.nodes } in
     let right = upgrades_file version f input.reads.says in
-    let may_be = whole_input upgrade_input f input.old left left' input.is_new input.reads in
+    let may_be = whole_input file_input f input.old left left' input.is_new input.reads in
     let same = subst (λ (v : ℕ). c.upgraded-upgraded.result ≡ record { heading = upgraded v f.heading; nodes = f.nodes }) c.get.ensures.value
     c.upgraded-upgraded.ensures in
     let wrote = subst (λ (t : TreeFile). Writes (k.written c.args.out.now) (k.written c.write_tree.new.out) c.write_tree.result (tree_file_text t)) same
@@ -32,11 +32,11 @@ returns-in-Ok-clause-serves g c =
 pub returns-in-Err-Line-clause-serves : goal.returns-in-Err-Line-clause-serves
 returns-in-Err-Line-clause-serves g c =
     let left = g.S.Source.left c.args.src.now in
-    let left' = g.S.Source.left c.read_input.new.src in
+    let left' = g.S.Source.left c.read_file.new.src in
     let line = c.in-Err-Line.line in
     let reason = c.in-Err-Line.reason in
     let input = rw c.in-Err-Line.field-0-is at c.in-Err-Line.ensures.reads in
-    let names = names_first upgrade_input.grammar line reason input.old input.new left left' input.is_new input.reads in
+    let names = names_first file_input.grammar line reason input.old input.new left left' input.is_new input.reads in
     let text = refused_text line reason in
     let right : RefusesLine (IsRefusedFile names.input) text = record { line = line; reason = reason; refused = names.first; named = refl } in
     served _ _ _ Malformed _ text c.write_refusal.result tt
@@ -47,22 +47,22 @@ returns-in-Err-Line-clause-serves g c =
 pub returns-in-Err-Read-clause-serves : goal.returns-in-Err-Read-clause-serves
 returns-in-Err-Read-clause-serves g c =
     let left = g.S.Source.left c.args.src.now in
-    let left' = g.S.Source.left c.read_input.new.src in
+    let left' = g.S.Source.left c.read_file.new.src in
     let input = rw c.in-Err-Read.field-0-is at c.in-Err-Read.ensures.reads in
     record {
-      leaves = record { stops = fails_in upgrade_input.grammar input.old input.new left left' input.is_new input.reads; unwritten = refl };
+      leaves = record { stops = fails_in file_input.grammar input.old input.new left left' input.is_new input.reads; unwritten = refl };
       counts = (rw c.in-Err-Read.field-0-is at c.in-Err-Read.ensures.cause, refl);
     }
 
 pub returns-in-Err-Memory-clause-serves : goal.returns-in-Err-Memory-clause-serves
 returns-in-Err-Memory-clause-serves g c =
     let left = g.S.Source.left c.args.src.now in
-    let left' = g.S.Source.left c.read_input.new.src in
+    let left' = g.S.Source.left c.read_file.new.src in
     let input = rw c.in-Err-Memory.field-0-is at c.in-Err-Memory.ensures.reads in
     let begins = rw c.in-Err-Memory.field-0-is at c.in-Err-Memory.ensures.wanting in
-    let fails = fails_in upgrade_input.grammar input.old input.new left left' input.is_new input.reads in
-    let right : UpgradeWantsMemory begins.0 [] = record { begins = begins.2; text_is = refl } in
-    let stops : StopsAtNamed upgrade_input.grammar [] left left' = record { due = fails.0; named = inl refl; ends = fails.1 } in
+    let fails = fails_in file_input.grammar input.old input.new left left' input.is_new input.reads in
+    let right : FileWantsMemory begins.0 [] = record { begins = begins.2; text_is = refl } in
+    let stops : StopsAtNamed file_input.grammar [] left left' = record { due = fails.0; named = inl refl; ends = fails.1 } in
     record {
       leaves = record { answer = upgrade_answer c.args.version.now left left' begins.0 OutOfMemory [] begins.1 right stops; unwritten = refl };
       counts = (rw c.in-Err-Memory.field-0-is at c.in-Err-Memory.ensures.cause, refl);

@@ -1,17 +1,6 @@
 use Rattle.std.proofs.Common.{sym, subst}
-use Rattle.std.proofs.lemmas.Result.{err_from_is_err_and}
 use Rattle.unfolding.specs.Shift.{HasShift}
 use Rattle.defining_functions.proofs.functions.Functions.of.Goals as goal
 
-pub returns-in_err-along-in-Some-clause-not_translate : goal.returns-in_err-along-in-Some-clause-not_translate
-returns-in_err-along-in-Some-clause-not_translate c =
-    let p = err_from_is_err_and c.from_residual.result c.from_residual.ensures.1 in
-    let err = p.1 in
-    let memory = p.2 in
-    (λ is has. cc, λ none. absurd (none (c.in-Some.shift.now, c.in-Some.ensures.is)))
-
-pub returns-in_ok-along-in-Some-clause-shift : goal.returns-in_ok-along-in-Some-clause-shift
-returns-in_ok-along-in-Some-clause-shift c = subst HasShift (sym c.in_ok-along-in-Some.ensures) (c.in-Some.shift.now, c.in-Some.ensures.is)
-
-pub returns-in_ok-along-in-Some-clause-not_translate : goal.returns-in_ok-along-in-Some-clause-not_translate
-returns-in_ok-along-in-Some-clause-not_translate c = (λ is has. cc, λ none. absurd (none (c.in-Some.shift.now, c.in-Some.ensures.is)))
+pub returns-clause-shift : goal.returns-clause-shift
+returns-clause-shift c = subst HasShift (sym c.in_ok-by_steps.ensures) c.in_ok-steps.ensures.shift

@@ -17,13 +17,19 @@ returns-in_err-unfolding-clause-unstable g c =
     let refused = err_from_is_err_and c.from_residual.result c.from_residual.ensures.1 in
     refused_by_memory c.args.word.now c.from_residual.result refused.0 stable refused.1 refused.2
 
+pub returns-in_err-steps-clause-unstable : goal.returns-in_err-steps-clause-unstable
+returns-in_err-steps-clause-unstable g c =
+    let stable : IsStable c.args.word.now = c.is_stable.ensures.0 c.if-not-is_stable.false in
+    let refused = err_from_is_err_and c.from_residual-in_err-steps.result c.from_residual-in_err-steps.ensures.1 in
+    let shift = c.in_ok-unfolding.ensures.stable.1 (subst IsStable (sym c.in_ok-unfolding.ensures.word) stable) in
+    refused_by_functions c.args.word.now c.from_residual-in_err-steps.result refused.0 c.in_err-steps.field-0.0 stable refused.1 refused.2
+    (λ is. c.in_err-steps.ensures.not_translate.0 (ap Err is) shift)
+
 pub returns-in_err-functions-clause-unstable : goal.returns-in_err-functions-clause-unstable
 returns-in_err-functions-clause-unstable g c =
     let stable : IsStable c.args.word.now = c.is_stable.ensures.0 c.if-not-is_stable.false in
     let refused = err_from_is_err_and c.from_residual-in_err-functions.result c.from_residual-in_err-functions.ensures.1 in
-    let shift = c.in_ok-unfolding.ensures.stable.1 (subst IsStable (sym c.in_ok-unfolding.ensures.word) stable) in
-    refused_by_functions c.args.word.now c.from_residual-in_err-functions.result refused.0 c.in_err-functions.field-0.0 stable refused.1 refused.2
-    (λ is. c.in_err-functions.ensures.not_translate.0 (ap Err is) shift)
+    refused_by_memory c.args.word.now c.from_residual-in_err-functions.result refused.0 stable refused.1 refused.2
 
 pub returns-in_err-table-clause-unstable : goal.returns-in_err-table-clause-unstable
 returns-in_err-table-clause-unstable g c =
@@ -35,9 +41,7 @@ pub returns-in_err-sums-clause-unstable : goal.returns-in_err-sums-clause-unstab
 returns-in_err-sums-clause-unstable g c =
     let stable : IsStable c.args.word.now = c.is_stable.ensures.0 c.if-not-is_stable.false in
     let refused = err_from_is_err_and c.from_residual-in_err-sums.result c.from_residual-in_err-sums.ensures.1 in
-    let shift = c.in_ok-unfolding.ensures.stable.1 (subst IsStable (sym c.in_ok-unfolding.ensures.word) stable) in
-    refused_by_functions c.args.word.now c.from_residual-in_err-sums.result refused.0 c.in_err-sums.field-0.0 stable refused.1 refused.2
-    (λ is. c.in_err-sums.ensures.not_translate.0 (ap Err is) shift)
+    refused_by_memory c.args.word.now c.from_residual-in_err-sums.result refused.0 stable refused.1 refused.2
 
 pub returns-in_err-uppers-clause-unstable : goal.returns-in_err-uppers-clause-unstable
 returns-in_err-uppers-clause-unstable g c =
@@ -56,8 +60,8 @@ number-requires-clause-small g c = subst (All IsSmallEntry) (sym c.deref-2.ensur
 
 pub number-requires-clause-sums : goal.number-requires-clause-sums
 number-requires-clause-sums g c =
-    subst₂ (λ f es. IsHeightSums f (dirs_of es) c.in_ok-sums.sums) (sym c.in_ok-functions.ensures.word) (c.deref.ensures.value ∙ sym c.deref-2.ensures.value)
-    c.in_ok-sums.ensures.sums
+    subst₂ (λ f es. IsHeightSums f (dirs_of es) c.in_ok-sums.sums) (sym c.in_ok-functions.ensures) (c.deref.ensures.value ∙ sym c.deref-2.ensures.value)
+    (c.in_ok-sums.ensures c.in_ok-unfolding.unfolding c.in_ok-steps.ensures.steps)
 
 pub invariant_of-result : goal.invariant_of-result
 invariant_of-result g c =
@@ -71,7 +75,7 @@ invariant_of-result g c =
     let ls_len : length c.number.new.lowers ≡ lowers.len =
     omega (arith, c.number.ensures.lowers.count, c.in_ok-lowers.ensures, c.letters-2.ensures.count, lowers.ok.0) in
     prepared_from g.S.Scale.BITS w c.copied.result c.in_ok-unfolding.unfolding f c.number.new.self c.in_ok-table.table.items _ _
-    c.number.new.uppers c.number.new.lowers c.copied.ensures c.in_ok-unfolding.ensures.word c.in_ok-functions.ensures.word
+    c.number.new.uppers c.number.new.lowers c.copied.ensures c.in_ok-unfolding.ensures.word c.in_ok-functions.ensures
     (subst IsWord c.unfolding.view_is c.unfolding.invariant.word) stable c.in_ok-table.ensures.directions c.in_ok-table.ensures.small
     (subst (λ es. AreUppers f es c.number.new.uppers) c.deref-2.ensures.value c.number.ensures.uppers)
     (subst (λ es. AreLowers f es c.number.new.lowers) c.deref-2.ensures.value c.number.ensures.lowers)
